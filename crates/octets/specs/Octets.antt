@@ -1,0 +1,55 @@
+-- Lists of bytes: numbers spelled in them, their xor, zero runs, equal runs, one run laid into another.
+use Prim.Native.Nat.{ℕ, zero, suc, _+_, _*_, _-_, _/_, _%_, _<_}
+use mathlib.Core.Bool.{Bool, true, false, _&&_}
+use mathlib.Core.List.{List, [], _∷_, _++_}
+use lib.Bits.{bitXor}
+use lib.Dec.{eqb}
+use lib.ListN.{length, take, drop}
+
+-- Each number of the list is a byte.
+abbrev pub Bytes : List ℕ → Type 0
+Bytes [] = Unit
+Bytes (b ∷ bs) = (b < 256) × Bytes bs
+
+-- The number that bytes spell, low byte first.
+unfoldable pub little : List ℕ → ℕ
+little [] = 0
+little (b ∷ bs) = b + 256 * little bs
+
+-- A number spelled in so many bytes, low byte first; what does not fit is left out.
+unfoldable pub spelled : ℕ → ℕ → List ℕ
+spelled zero x = []
+spelled (suc n) x = x % 256 ∷ spelled n (x / 256)
+
+-- The number in the n bytes from a place on; a byte past the end counts as zero.
+unfoldable pub numberAt : ℕ → List ℕ → ℕ → ℕ
+numberAt n s at = little (take n (drop at s))
+
+-- The xor of bytes, begun with a.
+unfoldable pub xorFrom : ℕ → List ℕ → ℕ
+xorFrom a [] = a
+xorFrom a (b ∷ bs) = xorFrom (bitXor a b) bs
+
+-- The xor of bytes.
+abbrev pub xorOf : List ℕ → ℕ
+xorOf bs = xorFrom 0 bs
+
+-- Every byte is zero.
+unfoldable pub allZero : List ℕ → Bool
+allZero [] = true
+allZero (b ∷ bs) = eqb b 0 && allZero bs
+
+-- Two runs are the same, byte for byte and in length.
+unfoldable pub sameBytes : List ℕ → List ℕ → Bool
+sameBytes [] [] = true
+sameBytes [] (y ∷ ys) = false
+sameBytes (x ∷ xs) [] = false
+sameBytes (x ∷ xs) (y ∷ ys) = eqb x y && sameBytes xs ys
+
+-- The buffer d with s laid into it from a place on: as much of s as fits, every other byte as it was.
+unfoldable pub laid : List ℕ → ℕ → List ℕ → List ℕ
+laid d at s = take at d ++ (take (length d - at) s ++ drop (at + length s) d)
+
+-- The buffer with its first bytes written over and the rest as lent.
+unfoldable pub over : List ℕ → List ℕ → List ℕ
+over front out = front ++ drop (length front) out

@@ -1,0 +1,164 @@
+-- The laws of Octets.
+use Prim.Native.Nat.{ℕ, zero, suc, _+_, _*_, _-_, _/_, _%_, _^_, _≤_, _<_, min}
+use mathlib.Core.Bool.{Bool, true, false, _&&_, and-false, false≢true}
+use mathlib.Core.List.{List, [], _∷_, _++_, append-assoc, append-nil}
+use mathlib.Core.Path.{_≡_, refl, sym, ap, ap₂, _∙_}
+use native.Mathlib.Decide.{decLe}
+use native.Mathlib.Nat.{div-add-mod', le-trans, le-add-right, min-eq-left, min-eq-right, div-lt-iff-lt-mul, pow-suc}
+use native.Mathlib.Numerals.{add-one, add-two}
+use native.Mathlib.Omega.{arith}
+use borrow.Author.Tests.{eq-eqb, eqb-true}
+use lib.Bits.{bitXor}
+use lib.Dec.{eqb, lit<}
+use lib.ListN.{length, getD, take, drop, set, length-append, length-take, length-drop, length-set, drop-of-length-le}
+use lib.Seq.{take-suc, drop-cons, drop-length, take-length, take-all, take-nil, drop-nil, getD-drop, set-append-seam, append-snoc, paste}
+use Rattle.octets.specs.Octets.{Bytes, little, spelled, numberAt, xorFrom, xorOf, allZero, sameBytes, laid, over}
+
+-- ---- xor
+
+pub xorFrom-snoc : (a : ℕ) (bs : List ℕ) (b : ℕ) → xorFrom a (bs ++ (b ∷ [])) ≡ bitXor (xorFrom a bs) b
+unfolding xorFrom
+xorFrom-snoc a [] b = refl
+xorFrom-snoc a (x ∷ bs) b = xorFrom-snoc (bitXor a x) bs b
+
+-- One byte more, as a loop takes it.
+pub xor-more : (s : List ℕ) (i : ℕ) → i < length s → xorOf (take (i + 1) s) ≡ bitXor (xorOf (take i s)) (getD s i 0)
+xor-more s i h = rw (add-one, take-suc s i 0) (xorFrom-snoc 0 (take i s) (getD s i 0))
+
+pub xor-all : (s : List ℕ) (i : ℕ) → length s ≤ i → xorOf (take i s) ≡ xorOf s
+xor-all s i h = ap xorOf (take-all i s h)
+
+-- ---- runs that a loop walks from the front
+
+-- The test of the first byte decides, and the rest is the same test.
+pub zero-more : (s : List ℕ) (i : ℕ) → i < length s → allZero (drop i s) ≡ (eqb (getD s i 0) 0 && allZero (drop (i + 1) s))
+unfolding allZero
+zero-more s i h = rw (add-one, drop-cons s i 0 h)
+
+pub zero-end : (s : List ℕ) (i : ℕ) → length s ≤ i → allZero (drop i s) ≡ true
+unfolding allZero
+zero-end s i h = rw (drop-of-length-le s h)
+
+pub same-more : (s t : List ℕ) (i : ℕ) → i < length s → i < length t
+    → sameBytes (drop i s) (drop i t) ≡ (eqb (getD s i 0) (getD t i 0) && sameBytes (drop (i + 1) s) (drop (i + 1) t))
+unfolding sameBytes
+same-more s t i hs ht = rw (add-one, drop-cons s i 0 hs, drop-cons t i 0 ht)
+
+pub same-end : (s t : List ℕ) (i : ℕ) → length s ≤ i → length t ≤ i → sameBytes (drop i s) (drop i t) ≡ true
+unfolding sameBytes
+same-end s t i hs ht = rw (drop-of-length-le s hs, drop-of-length-le t ht)
+
+-- Runs of different length are not the same.
+pub same-longer : (s t : List ℕ) → (length s ≡ length t → ⊥) → sameBytes s t ≡ false
+unfolding sameBytes
+same-longer [] [] h = absurd (h refl)
+same-longer [] (y ∷ t) h = refl
+same-longer (x ∷ s) [] h = refl
+same-longer (x ∷ s) (y ∷ t) h = ap (λ (r : Bool). eqb x y && r) (same-longer s t (λ e. h (ap suc e))) ∙ and-false (eqb x y)
+
+-- The test is right: it holds exactly of equal runs.
+pub same-refl : (s : List ℕ) → sameBytes s s ≡ true
+unfolding sameBytes
+same-refl [] = refl
+same-refl (x ∷ s) = rw (eq-eqb x x refl) (same-refl s)
+
+and-left : (a b : Bool) → (a && b) ≡ true → a ≡ true
+and-left true b h = refl
+and-left false b h = h
+
+and-right : (a b : Bool) → (a && b) ≡ true → b ≡ true
+and-right true b h = h
+and-right false b h = absurd (false≢true h)
+
+pub same-true : (s t : List ℕ) → sameBytes s t ≡ true → s ≡ t
+unfolding sameBytes
+same-true [] [] h = refl
+same-true [] (y ∷ t) h = absurd (false≢true h)
+same-true (x ∷ s) [] h = absurd (false≢true h)
+same-true (x ∷ s) (y ∷ t) h =
+    ap₂ _∷_ (eqb-true x y (and-left (eqb x y) (sameBytes s t) h)) (same-true s t (and-right (eqb x y) (sameBytes s t) h))
+
+-- ---- numbers
+
+pub number-past : (n : ℕ) (s : List ℕ) (at : ℕ) → length s ≤ at → numberAt n s at ≡ 0
+unfolding numberAt little
+number-past n s at h = rw (drop-of-length-le s h, take-nil n)
+
+-- A number is its first byte and the rest, 256 times as much.
+pub number-step : (n : ℕ) (s : List ℕ) (at : ℕ) → numberAt (suc n) s at ≡ getD s at 0 + 256 * numberAt n s (suc at)
+unfolding numberAt little
+number-step n [] at = rw (drop-nil at, take-nil n)
+number-step n (x ∷ s) zero = refl
+number-step n (x ∷ s) (suc at) = number-step n s at
+
+pub number-two : (s : List ℕ) (at : ℕ) → numberAt 2 s at ≡ getD s at 0 + 256 * getD s (at + 1) 0
+unfolding numberAt little
+number-two s at = number-step 1 s at ∙ rw (number-step 0 s (suc at), add-one) (omega arith)
+
+pub number-four : (s : List ℕ) (at : ℕ) → numberAt 4 s at ≡ numberAt 2 s at + 65536 * numberAt 2 s (at + 2)
+number-four s at =
+    let first : numberAt 2 s at ≡ getD s at 0 + 256 * getD s (suc at) 0 = number-two s at ∙ rw add-one in
+    rw (number-step 3 s at, number-step 2 s (suc at), first, add-two) (omega arith)
+
+-- ---- laying bytes into a buffer
+
+pub laid-past : (d : List ℕ) (at : ℕ) (s : List ℕ) → length d ≤ at → laid d at s ≡ d
+unfolding laid
+laid-past d at s h =
+    let none : length d - at ≡ 0 = omega arith in
+    rw (take-all at d h, none, drop-of-length-le d (le-trans h (le-add-right at (length s))), append-nil)
+
+-- What a copy of as many bytes as fit leaves.
+pub laid-paste : (d : List ℕ) (at : ℕ) (s : List ℕ) → at ≤ length d → laid d at s ≡ paste d at s (min (length s) (length d - at))
+unfolding laid
+laid-paste d at s h = go (decLe (length s) (length d - at))
+  where
+    go : Dec (length s ≤ length d - at) → laid d at s ≡ paste d at s (min (length s) (length d - at))
+    go (yes k) = rw (min-eq-left k, take-all (length d - at) s k, take-length, append-assoc)
+    go (no k) =
+        let room : at + (length d - at) ≡ length d = omega arith in
+        let far : length d ≤ at + length s = omega arith in
+        let short : length d - at ≤ length s = omega arith in
+        rw (min-eq-right short, room, drop-length, drop-of-length-le d far, append-nil (take (length d - at) s), append-nil (take at d ++ take (length d - at) s))
+
+-- ---- a number and its spelling
+
+pub length-spelled : (n x : ℕ) → length (spelled n x) ≡ n
+unfolding spelled
+length-spelled zero x = refl
+length-spelled (suc n) x = ap suc (length-spelled n (x / 256))
+
+-- Spelled and read again, a number that fits is the same.
+pub little-spelled : (n x : ℕ) → x < 256 ^ n → little (spelled n x) ≡ x
+unfolding little spelled
+little-spelled zero x h = omega arith
+little-spelled (suc n) x h =
+    let fits : x / 256 < 256 ^ n = div-lt-iff-lt-mul (lit< tt) .1 (rw pow-suc at h) in
+    rw (little-spelled n (x / 256) fits) (omega arith)
+
+-- Read and spelled again, bytes are the same.
+pub spelled-little : (bs : List ℕ) → Bytes bs → spelled (length bs) (little bs) ≡ bs
+unfolding little spelled
+spelled-little [] h = refl
+spelled-little (b ∷ bs) h =
+    let low : (b + 256 * little bs) % 256 ≡ b = omega (arith, h .0) in
+    let high : (b + 256 * little bs) / 256 ≡ little bs = omega (arith, h .0) in
+    rw (low, high, spelled-little bs (h .1))
+
+-- ---- a buffer written from the front
+
+pub over-nil : (out : List ℕ) → over [] out ≡ out
+unfolding over
+over-nil out = refl
+
+pub length-over : (front out : List ℕ) → length front ≤ length out → length (over front out) ≡ length out
+unfolding over
+length-over front out h = simp (length-append, length-drop) (omega arith)
+
+-- One byte more is a store at the next place.
+pub over-more : (front out : List ℕ) (b : ℕ) → length front < length out → set (over front out) (length front) b ≡ over (front ++ (b ∷ [])) out
+unfolding over
+over-more front out b h =
+    let seam : drop (length front) out ≡ getD out (length front) 0 ∷ drop (suc (length front)) out = drop-cons out (length front) 0 h in
+    let size : length (front ++ (b ∷ [])) ≡ suc (length front) = length-append front (b ∷ []) ∙ add-one (length front) in
+    rw (seam, size, set-append-seam, append-snoc)

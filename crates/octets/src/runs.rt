@@ -1,0 +1,69 @@
+// Whole runs of bytes: their xor, whether they are zeros, whether two are the same, a copy.
+ghost use mathlib.Core.Path.{_≡_};
+ghost use Prim.Native.Nat.{min};
+ghost use Rattle.octets.specs.Octets.{xorOf, allZero, sameBytes, laid};
+
+// The xor of all bytes, 0 for none.
+pub fn xor(s: &[u8]) -> u8
+    ensures { λ r. ⌜ r ≡ xorOf (now (s .entry)) ⌝ }
+{
+    let mut sum: u8 = 0;
+    let mut i = 0;
+    while i < s.len() {
+        sum = sum ^ s[i];
+        i += 1;
+    }
+    sum
+}
+
+// Whether every byte is zero.
+pub fn zeros(s: &[u8]) -> bool
+    ensures { λ r. ⌜ r ≡ allZero (now (s .entry)) ⌝ }
+{
+    let mut i = 0;
+    while i < s.len() {
+        if s[i] != 0 {
+            return false;
+        }
+        i += 1;
+    }
+    true
+}
+
+// Whether two runs are the same, in length and byte for byte.
+pub fn same(a: &[u8], b: &[u8]) -> bool
+    ensures { λ r. ⌜ r ≡ sameBytes (now (a .entry)) (now (b .entry)) ⌝ }
+{
+    if a.len() != b.len() {
+        return false;
+    }
+    let mut i = 0;
+    while i < a.len() {
+        if a[i] != b[i] {
+            return false;
+        }
+        i += 1;
+    }
+    true
+}
+
+// s laid into d from a place on: as much of it as fits.
+pub fn copy(s: &[u8], d: &mut [u8], at: usize)
+    ensures { λ _. ⌜ now (d .exit) ≡ laid (now (d .entry)) at (now (s .entry)) ⌝ }
+{
+    if d.len() <= at {
+        return;
+    }
+    let n = least(s.len(), d.len() - at);
+    let mut i = 0;
+    while i < n {
+        d[at + i] = s[i];
+        i += 1;
+    }
+}
+
+fn least(a: usize, b: usize) -> usize
+    ensures { λ r. ⌜ r ≡ min a b ⌝ }
+{
+    if a < b { a } else { b }
+}
