@@ -11,7 +11,7 @@ use borrow.Author.Tests.{eq-eqb, eqb-true}
 use lib.Bits.{bitXor}
 use lib.Dec.{eqb, lit<}
 use lib.ListN.{length, getD, take, drop, set, length-append, length-take, length-drop, length-set, drop-of-length-le}
-use lib.Seq.{take-suc, drop-cons, drop-length, take-length, take-all, take-nil, drop-nil, getD-drop, set-append-seam, append-snoc, paste}
+use lib.Seq.{take-suc, drop-cons, drop-length, take-length, take-all, take-nil, drop-nil, getD-drop, set-append-seam, append-snoc, paste, sets, take-at, drop-append-add, drop-drop}
 use Rattle.octets.specs.Octets.{Bytes, little, spelled, numberAt, xorFrom, xorOf, allZero, sameBytes, laid, over}
 
 -- ---- xor
@@ -155,10 +155,47 @@ pub length-over : (front out : List ℕ) → length front ≤ length out → len
 unfolding over
 length-over front out h = simp (length-append, length-drop) (omega arith)
 
--- One byte more is a store at the next place.
-pub over-more : (front out : List ℕ) (b : ℕ) → length front < length out → set (over front out) (length front) b ≡ over (front ++ (b ∷ [])) out
+pub take-over : (front out : List ℕ) (n : ℕ) → length front ≡ n → take n (over front out) ≡ front
 unfolding over
-over-more front out b h =
-    let seam : drop (length front) out ≡ getD out (length front) 0 ∷ drop (suc (length front)) out = drop-cons out (length front) 0 h in
+take-over front out n e = take-at front (drop (length front) out) n e
+
+-- A run laid at the next place is written behind the front.
+pub over-laid : (front out s : List ℕ) (n : ℕ) → length front ≡ n → n + length s ≤ length out → laid (over front out) n s ≡ over (front ++ s) out
+unfolding over laid
+over-laid front out s n e h =
+    let rest : List ℕ = drop (length front) out in
+    let room : length s ≤ length (front ++ rest) - length front = simp (length-append, length-drop) (omega arith) in
+    rw (
+      ← e,
+      take-at front rest (length front) refl,
+      take-all (length (front ++ rest) - length front) s room,
+      drop-append-add front rest (length s),
+      drop-drop (length s) (length front) out,
+      length-append front s,
+      append-assoc front s (drop (length front + length s) out),
+    )
+
+-- A byte stored at the next place is written behind the front.
+pub over-put : (front out : List ℕ) (n b : ℕ) → length front ≡ n → n < length out → set (over front out) n b ≡ over (front ++ (b ∷ [])) out
+unfolding over
+over-put front out n b e h =
+    let in-out : length front < length out = omega arith in
+    let seam : drop (length front) out ≡ getD out (length front) 0 ∷ drop (suc (length front)) out = drop-cons out (length front) 0 in-out in
     let size : length (front ++ (b ∷ [])) ≡ suc (length front) = length-append front (b ∷ []) ∙ add-one (length front) in
-    rw (seam, size, set-append-seam, append-snoc)
+    rw (← e, seam, size, set-append-seam, append-snoc)
+
+-- A run stored byte by byte from the next place on is written behind the front.
+pub over-sets : (front out s : List ℕ) (n : ℕ) → length front ≡ n → n + length s ≤ length out → sets (over front out) n s ≡ over (front ++ s) out
+over-sets front out [] n e h = ap (λ (l : List ℕ). over l out) (sym (append-nil front))
+over-sets front out (b ∷ s) n e h =
+    let size : length (front ++ (b ∷ [])) ≡ suc n = length-append front (b ∷ []) ∙ omega arith in
+    rw (over-put front out n b e (omega arith)) (over-sets (front ++ (b ∷ [])) out s (suc n) size (omega arith))
+    ∙ ap (λ (l : List ℕ). over l out) (append-assoc front (b ∷ []) s)
+
+-- What is written over a shorter front covers it.
+pub over-over : (short front out : List ℕ) → length short ≤ length front → over front (over short out) ≡ over front out
+unfolding over
+over-over short front out h =
+    let more : length short + (length front - length short) ≡ length front = omega arith in
+    ap (λ (l : List ℕ). front ++ l)
+    (rw (← more) (drop-append-add short (drop (length short) out) (length front - length short) ∙ drop-drop (length front - length short) (length short) out))
