@@ -10,6 +10,7 @@ pub use numbers::put_four;
 pub use numbers::put_two;
 pub use numbers::two_at;
 pub use runs::copy;
+pub use runs::least;
 pub use runs::same;
 pub use runs::xor;
 pub use runs::zeros;

@@ -62,7 +62,8 @@ pub fn copy(s: &[u8], d: &mut [u8], at: usize)
     }
 }
 
-fn least(a: usize, b: usize) -> usize
+// The smaller of two numbers.
+pub fn least(a: usize, b: usize) -> usize
     ensures { λ r. ⌜ r ≡ min a b ⌝ }
 {
     if a < b { a } else { b }

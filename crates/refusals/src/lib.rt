@@ -1,4 +1,7 @@
 // The refusal numbers of document 01's table by name, and the words that a program prints beside a number.
+ghost use mathlib.Core.Path.{_≡_};
+ghost use Rattle.refusals.specs.Refusals.{Said, sayOf, wordsOf};
+
 pub const PAYLOAD_TOO_LONG: u8 = 1;
 
 pub const NO_ROOM: u8 = 2;
@@ -26,3 +29,33 @@ pub const NO_ANSWER: u8 = 20;
 pub const MODULE_REFUSED: u8 = 21;
 
 pub const BAD_NOTICE: u8 = 22;
+
+// Puts the words of a number at the front of the output, as much of them as fits, and answers how many bytes that is.
+pub fn words(number: u8, out: &mut [u8]) -> usize
+    ensures { λ r. ⌜ record { count = r; output = now (out .exit) } ≡ sayOf (wordsOf number) (now (out .entry)) ⌝ }
+{
+    match number {
+        PAYLOAD_TOO_LONG => say(b"payload over 1,030 bytes", out),
+        NO_ROOM => say(b"output too small", out),
+        WRONG_LENGTH => say(b"flash or image of the wrong length", out),
+        FILE_ENDS => say(b"file ends inside a block", out),
+        WRONG_MARK => say(b"mark is not AT", out),
+        WRONG_TYPE => say(b"type or address not known", out),
+        WRONG_START => say(b"image starts inside the header", out),
+        WRONG_IMAGE_LENGTH => say(b"image length not allowed", out),
+        NOT_ZERO_FILLED => say(b"gap or text not filled with zeros", out),
+        WRONG_IMAGE_CHECK => say(b"image check differs", out),
+        WRONG_PIECES => say(b"piece size 0 or too many pieces", out),
+        NO_ANSWER => say(b"no fitting answer after 3 repeats", out),
+        MODULE_REFUSED => say(b"the module refused", out),
+        BAD_NOTICE => say(b"the module reports a failure", out),
+        _ => say(b"unknown refusal number", out),
+    }
+}
+
+fn say(text: &[u8], out: &mut [u8]) -> usize
+    ensures { λ r. ⌜ record { count = r; output = now (out .exit) } ≡ sayOf (now (text .entry)) (now (out .entry)) ⌝ }
+{
+    octets::copy(text, out, 0);
+    octets::least(text.len(), out.len())
+}
