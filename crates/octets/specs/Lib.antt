@@ -2,3 +2,4 @@
 pub mod Octets
 pub mod OctetsLaws
 pub mod Lists
+pub mod Choice

@@ -1,1 +1,44 @@
--- Facts about lists that several crates use.
+-- Facts about lists and bytes that several crates use.
+use Prim.Native.Nat.{ℕ, zero, suc, _+_, _-_, _≤_, _<_}
+use mathlib.Core.List.{List, [], _∷_, _++_, map, List·Memᴰ, List·Memᴰ·head, List·Memᴰ·tail}
+use mathlib.Core.Path.{_≡_, refl}
+use native.Mathlib.Omega.{arith}
+use lib.ListN.{length, getD, take, drop, length-drop}
+use lib.Seq.{take-all, take-take, take-nil}
+use Rattle.octets.specs.Octets.{Bytes}
+
+-- A part that lies in the first k elements is a part of those.
+pub part-take : {A : Type 0} (m n k : ℕ) (l : List A) → n + m ≤ k → take m (drop n (take k l)) ≡ take m (drop n l)
+part-take m zero k l h = take-take m k l (omega arith)
+part-take m (suc n) k [] h = rw (take-nil k)
+part-take m (suc n) zero (x ∷ l) h = absurd (omega arith)
+part-take m (suc n) (suc k) (x ∷ l) h = part-take m n k l (omega arith)
+
+-- Two functions that are the same over a list are the same at each of its elements.
+pub same-each : {A B : Type 0} (f g : A → B) (l : List A) → map f l ≡ map g l → (a : A) → List·Memᴰ a l → f a ≡ g a
+same-each f g (x ∷ l) e a (List·Memᴰ·head p) = cc
+same-each f g (x ∷ l) e a (List·Memᴰ·tail m) = same-each f g l (cc) a m
+
+-- The front of a list of bytes, what is left of one, and one with a byte behind it are bytes; each place holds a byte.
+pub bytes-take : (n : ℕ) (bs : List ℕ) → Bytes bs → Bytes (take n bs)
+bytes-take zero bs h = tt
+bytes-take (suc n) [] h = tt
+bytes-take (suc n) (b ∷ bs) h = (h .0, bytes-take n bs (h .1))
+
+pub bytes-drop : (n : ℕ) (bs : List ℕ) → Bytes bs → Bytes (drop n bs)
+bytes-drop zero bs h = h
+bytes-drop (suc n) [] h = tt
+bytes-drop (suc n) (b ∷ bs) h = bytes-drop n bs (h .1)
+
+pub bytes-snoc : (bs : List ℕ) (b : ℕ) → Bytes bs → b < 256 → Bytes (bs ++ (b ∷ []))
+bytes-snoc [] b h l = (l, tt)
+bytes-snoc (x ∷ bs) b h l = (h .0, bytes-snoc bs b (h .1) l)
+
+pub byte-at : (bs : List ℕ) (i : ℕ) → Bytes bs → getD bs i 0 < 256
+byte-at [] i h = omega arith
+byte-at (b ∷ bs) zero h = h .0
+byte-at (b ∷ bs) (suc i) h = byte-at bs i (h .1)
+
+-- All of a list from a place on, as a part of it is said.
+pub rest-part : {A : Type 0} (l : List A) (n : ℕ) → take (length l - n) (drop n l) ≡ drop n l
+rest-part l n = take-all (length l - n) (drop n l) (rw length-drop (omega arith))

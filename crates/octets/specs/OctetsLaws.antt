@@ -12,6 +12,7 @@ use lib.Bits.{bitXor}
 use lib.Dec.{eqb, lit<}
 use lib.ListN.{length, getD, take, drop, set, length-append, length-take, length-drop, length-set, drop-of-length-le}
 use lib.Seq.{take-suc, drop-cons, drop-length, take-length, take-all, take-nil, drop-nil, getD-drop, set-append-seam, append-snoc, paste, sets, take-at, drop-append-add, drop-drop}
+use Rattle.octets.specs.Choice.{both}
 use Rattle.octets.specs.Octets.{Bytes, little, spelled, numberAt, xorFrom, xorOf, allZero, sameBytes, laid, over}
 
 -- ---- xor
@@ -62,21 +63,14 @@ unfolding sameBytes
 same-refl [] = refl
 same-refl (x ∷ s) = rw (eq-eqb x x refl) (same-refl s)
 
-and-left : (a b : Bool) → (a && b) ≡ true → a ≡ true
-and-left true b h = refl
-and-left false b h = h
-
-and-right : (a b : Bool) → (a && b) ≡ true → b ≡ true
-and-right true b h = h
-and-right false b h = absurd (false≢true h)
-
 pub same-true : (s t : List ℕ) → sameBytes s t ≡ true → s ≡ t
 unfolding sameBytes
 same-true [] [] h = refl
 same-true [] (y ∷ t) h = absurd (false≢true h)
 same-true (x ∷ s) [] h = absurd (false≢true h)
 same-true (x ∷ s) (y ∷ t) h =
-    ap₂ _∷_ (eqb-true x y (and-left (eqb x y) (sameBytes s t) h)) (same-true s t (and-right (eqb x y) (sameBytes s t) h))
+    let each = both (eqb x y) (sameBytes s t) h in
+    ap₂ _∷_ (eqb-true x y (each .0)) (same-true s t (each .1))
 
 -- ---- numbers
 

@@ -1,8 +1,9 @@
 -- The laws of the escape. What stands above cites these and never the pairs themselves.
-use Prim.Native.Nat.{ℕ}
+use Prim.Native.Nat.{ℕ, _<_}
 use mathlib.Core.Bool.{Bool, true, false, _||_, false≢true, true≢false}
 use mathlib.Core.List.{List, [], _∷_, _++_, append-assoc, append-nil}
 use mathlib.Core.Path.{_≡_, refl, _∙_}
+use native.Mathlib.Omega.{arith}
 use borrow.Author.Tests.{eqb-true}
 use lib.Dec.{eqb}
 use Rattle.wire.specs.Escape.{headMark, escapeMark, tailMark, isMark, secondOf, mayFollow, originalOf, escapeOf, escaped}
@@ -84,6 +85,11 @@ second-original = each-second (λ b. secondOf (originalOf b) ≡ b) refl refl re
 pub follow-not-mark : (b : ℕ) → mayFollow b ≡ true → isMark b ≡ false
 unfolding isMark
 follow-not-mark = each-second (λ b. isMark b ≡ false) refl refl refl
+
+-- What it stands for is a byte.
+pub original-byte : (b : ℕ) → mayFollow b ≡ true → originalOf b < 256
+unfolding originalOf
+original-byte = each-second (λ b. originalOf b < 256) (omega arith) (omega arith) (omega arith)
 
 -- A mark goes on the wire as the escape and its second byte.
 pub escape-mark : (b : ℕ) → isMark b ≡ true → escapeOf b ≡ escapeMark ∷ secondOf b ∷ []

@@ -1,6 +1,6 @@
 -- The laws of content: what is made of a frame is content, and content is made of its frame.
 use Prim.Native.Nat.{ℕ, zero, suc, _+_, _-_, _≤_, _<_}
-use mathlib.Core.Bool.{Bool, true, false, _&&_, false≢true}
+use mathlib.Core.Bool.{Bool, true, _&&_}
 use mathlib.Core.List.{List, [], _∷_, _++_}
 use mathlib.Core.Path.{_≡_, refl, sym, ap, _∙_}
 use native.Mathlib.Omega.{arith}
@@ -8,6 +8,8 @@ use borrow.Author.Tests.{le-leb, leb-true, eq-eqb, eqb-true}
 use lib.Dec.{eqb, leb}
 use lib.ListN.{length, getD, take, drop, length-append, length-take, length-drop}
 use lib.Seq.{take-at, getD-at, take-add, take-suc, take-all, drop-cons, length-take-le}
+use Rattle.octets.specs.Choice.{both}
+use Rattle.octets.specs.Lists.{bytes-take, bytes-drop, byte-at}
 use Rattle.octets.specs.Octets.{Bytes, numberAt, spelled, xorOf}
 use Rattle.octets.specs.OctetsLaws.{little-spelled, spelled-little}
 use Rattle.wire.specs.Frame.{Frame, Acceptable, device, longestPayload, longestContent}
@@ -41,11 +43,6 @@ test-of-parts c p =
     rw (le-leb 5 (length c) (p .long), eq-eqb (numberAt 2 c 0) (length c - 2) (p .counted), eq-eqb (getD c 2 0) device (p .ours))
     (eq-eqb (getD c (length c - 1) 0) (xorOf (take (length c - 1) c)) (p .checked))
 
--- Where two tests both hold, each does.
-both : (a b : Bool) → (a && b) ≡ true → (a ≡ true) × (b ≡ true)
-both true b h = (refl, h)
-both false b h = absurd (false≢true h)
-
 -- Where the test holds, the facts do.
 parts-of-test : (c : List ℕ) → isContent c ≡ true → Parts c
 unfolding isContent
@@ -59,6 +56,10 @@ parts-of-test c h =
       ours = eqb-true (getD c 2 0) device (ends .0);
       checked = eqb-true (getD c (length c - 1) 0) (xorOf (take (length c - 1) c)) (ends .1);
     }
+
+-- Content is never shorter than five bytes.
+pub content-long : (c : List ℕ) → isContent c ≡ true → 5 ≤ length c
+content-long c h = parts-of-test c h .long
 
 -- ---- from a frame to its content and back
 
@@ -87,24 +88,6 @@ frame-in-content f =
     (take-at (f .payload) (xorOf (uncheckedOf f) ∷ []) (length (contentOf f) - 5) size)
 
 -- ---- from content to its frame and back
-
--- The front of a list of bytes is bytes.
-bytes-take : (n : ℕ) (bs : List ℕ) → Bytes bs → Bytes (take n bs)
-bytes-take zero bs h = tt
-bytes-take (suc n) [] h = tt
-bytes-take (suc n) (b ∷ bs) h = (h .0, bytes-take n bs (h .1))
-
--- What is left of a list of bytes is bytes.
-bytes-drop : (n : ℕ) (bs : List ℕ) → Bytes bs → Bytes (drop n bs)
-bytes-drop zero bs h = h
-bytes-drop (suc n) [] h = tt
-bytes-drop (suc n) (b ∷ bs) h = bytes-drop n bs (h .1)
-
--- Each place of a list of bytes holds a byte.
-byte-at : (bs : List ℕ) (i : ℕ) → Bytes bs → getD bs i 0 < 256
-byte-at [] i h = omega arith
-byte-at (b ∷ bs) zero h = h .0
-byte-at (b ∷ bs) (suc i) h = byte-at bs i (h .1)
 
 -- The bytes before the check are those of the frame.
 before-check : (c : List ℕ) → Bytes c → Parts c → uncheckedOf (frameIn c) ≡ take (length c - 1) c

@@ -1,0 +1,28 @@
+-- Runs of the reader: the steps' definition folded over bytes.
+use Prim.Native.Nat.{ℕ, suc, _≤_}
+use mathlib.Core.List.{List, [], _∷_, _++_, map}
+use Rattle.wire.specs.Frame.{Frame}
+use Rattle.reader.specs.Reader.{stepOf, framesOf}
+use Rattle.reader.specs.declared.steps.Reader.{Reader}
+
+-- A frame that was handed out, and the place of its tail.
+pub record Placed : Type 0 where
+  pub place : ℕ
+  pub frame : Frame
+
+abbrev pub placed : ℕ → Frame → Placed
+placed k f = record { place = k; frame = f }
+
+-- The frames that a run hands out, in order, each with the place of its tail. The first byte has the place k.
+unfoldable pub handedFrom : Reader → ℕ → List ℕ → List Placed
+handedFrom r k [] = []
+handedFrom r k (b ∷ bs) = map (placed k) (framesOf (stepOf r b)) ++ handedFrom (stepOf r b .reader) (suc k) bs
+
+-- The same with places counted from 0.
+abbrev pub handedOf : Reader → List ℕ → List Placed
+handedOf r bs = handedFrom r 0 bs
+
+-- Places that rise strictly, from k on.
+abbrev pub RisingFrom : ℕ → List Placed → Type 0
+RisingFrom k [] = Unit
+RisingFrom k (p ∷ ps) = (k ≤ p .place) × RisingFrom (suc (p .place)) ps

@@ -1,0 +1,233 @@
+-- The laws of Seen: the reader's steps and runs are those of its view.
+use Prim.Native.Nat.{ℕ, suc, _+_, _-_, _≤_, _<_}
+use mathlib.Core.Bool.{Bool, true, false, cond, not, _&&_}
+use mathlib.Core.List.{List, [], _∷_, _++_, append-assoc}
+use mathlib.Core.Path.{_≡_, refl, ap, _∙_}
+use native.Mathlib.Nat.{add-zero}
+use native.Mathlib.Numerals.{add-one}
+use native.Mathlib.Omega.{arith}
+use borrow.Author.Tests.{leb-true, le-leb, ltb-true}
+use lib.Dec.{eqb, leb, ltb}
+use lib.ListN.{length, getD, take, set, length-set, length-replicate}
+use lib.Seq.{length-take-le, take-suc-set, getD-take}
+use Rattle.wire.specs.Escape.{headMark, escapeMark, tailMark, mayFollow, originalOf}
+use Rattle.wire.specs.Frame.{Frame, longestContent, isContent, frameIn}
+use Rattle.wire.specs.FrameLaws.{content-long}
+use Rattle.reader.specs.Reader.{fresh, knownOf, heldOf, closedOf, waitingOf, openedOf, answers}
+use Rattle.reader.specs.Reader.{payloadIn, framesIn, framesOf}
+use Rattle.reader.specs.Reader.{contentStep, followStep, tailStep, insideStep, headStep, knownStep, stepOf}
+use Rattle.reader.specs.Runs.{handedFrom, handedOf}
+use Rattle.reader.specs.Promises.{Any}
+use Rattle.octets.specs.Choice.{by-test, either-way, both}
+use Rattle.octets.specs.Lists.{part-take}
+use Rattle.reader.specs.Seen.{Seen, outside, within, seenIn, seenOf, Sight, quiet, hands}
+use Rattle.reader.specs.Seen.{seenStep, seenFrames, seenAfter, seenHanded}
+use Rattle.reader.specs.Seen.{contentSight, followSight, tailSight, insideSight, pastSight, sightOf}
+use Rattle.reader.specs.declared.steps.Reader.{Reader}
+use Rattle.reader.specs.declared.steps.Stepped.{Stepped}
+use Rattle.reader.specs.declared.steps.Heard.the-variants.{Dropped, Nothing}
+
+-- A reader with a whole store whose count is in it.
+pub record Known (r : Reader) : Type 0 where
+  pub size : length (r .store) ≡ longestContent
+  pub low : r .count ≤ longestContent
+
+-- A step is seen as this: the reader after it is known, and it is the view's step.
+pub record SeenAs (step : Stepped) (sight : Sight) : Type 0 where
+  pub known : Known (step .reader)
+  pub after : seenIn (step .reader) ≡ sight .seen
+  pub handed : framesOf step ≡ sight .frames
+
+-- ---- one step
+
+-- A reader by its parts.
+abbrev readerOf : Bool → List ℕ → ℕ → Bool → Reader
+readerOf o store count p = record { store = store; count = count; opened = o; pending = p }
+
+-- A reader inside a frame.
+abbrev insideOf : List ℕ → ℕ → Bool → Reader
+insideOf store count p = readerOf true store count p
+
+module _ (store : List ℕ) (count : ℕ) (size : length store ≡ longestContent) (low : count ≤ longestContent) where
+  -- The content so far is as long as the count says.
+  held-long : length (take count store) ≡ count
+  held-long = length-take-le count store (omega arith)
+
+  -- A reader with this store and count is known.
+  still : (o p : Bool) → Known (readerOf o store count p)
+  still o p = record { size = size; low = low }
+
+  -- A frame that is dropped is closed, and nothing is handed out.
+  dropped-seen : (p : Bool) → SeenAs (answers Dropped (closedOf (insideOf store count p))) (quiet outside)
+  dropped-seen p = record { known = still false false; after = refl; handed = refl }
+
+  -- A byte put at the count stands behind the content so far.
+  put-held : (b : ℕ) → count < longestContent → take (count + 1) (set store count b) ≡ take count store ++ (b ∷ [])
+  put-held b h = rw add-one (take-suc-set store count b (omega arith))
+
+  -- A content byte is put behind the content so far, or the frame is dropped.
+  content-seen : (p : Bool) (b : ℕ) → SeenAs (contentStep (insideOf store count p) b) (contentSight (take count store) b)
+  unfolding contentStep contentSight heldOf
+  content-seen p b =
+      rw held-long (by-test SeenAs (ltb count longestContent)
+      (λ e. let room : count < longestContent = ltb-true count longestContent e in record {
+        known = record { size = length-set store count b ∙ size; low = omega arith };
+        after = ap (within false) (put-held b room);
+        handed = refl;
+      })
+      (λ e. dropped-seen p))
+
+  -- The byte after the escape is the content byte that it stands for, or the frame is dropped.
+  follow-seen : (p : Bool) (b : ℕ) → SeenAs (followStep (insideOf store count p) b) (followSight (take count store) b)
+  unfolding followStep followSight
+  follow-seen p b = by-test SeenAs (mayFollow b) (λ e. content-seen p (originalOf b)) (λ e. dropped-seen p)
+
+  -- The frame that lies in the store is the one that the content so far carries.
+  frame-held : 5 ≤ count
+      → _≡_ {A = Frame} (record { command = getD store 3 0; payload = payloadIn store (count - 5) }) (frameIn (take count store))
+  unfolding payloadIn
+  frame-held h = rw (held-long, getD-take count store 3 0 (omega arith), part-take (count - 5) 4 count store (omega arith))
+
+  -- Where the content so far passes the test, the count is at least 5.
+  held-content : (a : Bool) → (a && isContent (take count store)) ≡ true → 5 ≤ count
+  held-content a e =
+      let good : isContent (take count store) ≡ true = both a (isContent (take count store)) e .1 in
+      omega (arith, content-long (take count store) good, held-long)
+
+  -- The tail hands out the frame that the content so far carries, or none.
+  tail-seen : (p : Bool) → SeenAs (tailStep (insideOf store count p)) (tailSight p (take count store))
+  unfolding tailStep tailSight heldOf
+  tail-seen p =
+      by-test SeenAs (not p && isContent (take count store))
+      (λ e. record {
+        known = still false false;
+        after = refl;
+        handed = ap (λ (f : Frame). f ∷ []) (frame-held (held-content (not p) e));
+      })
+      (λ e. dropped-seen p)
+
+  -- The escape waits for the next byte.
+  waiting-seen : (p : Bool)
+      → SeenAs (answers Nothing (waitingOf (insideOf store count p))) (quiet (within true (take count store)))
+  unfolding heldOf
+  waiting-seen p = record { known = still true true; after = refl; handed = refl }
+
+  -- Every byte inside a frame but the head.
+  inside-seen : (p : Bool) (b : ℕ) → SeenAs (insideStep (insideOf store count p) b) (insideSight p (take count store) b)
+  unfolding insideStep insideSight
+  inside-seen p b =
+      by-test SeenAs (eqb b tailMark) (λ t. tail-seen p) (λ t.
+      by-test SeenAs p (λ w. follow-seen p b) (λ w.
+      by-test SeenAs (eqb b escapeMark) (λ e. waiting-seen p) (λ e. content-seen p b)))
+
+  -- Any byte but the head, inside a frame or not.
+  past-seen : (o p : Bool) (b : ℕ)
+      → SeenAs (cond o (insideStep (readerOf o store count p) b) (answers Nothing (readerOf o store count p)))
+      (pastSight (cond o (within p (take count store)) outside) b)
+  past-seen true p b = inside-seen p b
+  past-seen false p b = record { known = still false p; after = refl; handed = refl }
+
+-- The head opens a frame, and hands out nothing.
+head-seen : (r : Reader) → Known r → SeenAs (headStep r) (quiet (within false []))
+unfolding headStep heldOf
+head-seen r k = record { known = record { size = k .size; low = omega arith }; after = refl; handed = none (r .opened) }
+  where
+    none : (o : Bool) → _≡_ {A = List Frame} (framesIn (cond o Dropped Nothing) (openedOf r)) []
+    none true = refl
+    none false = refl
+
+-- Every byte to a known reader.
+known-seen : (r : Reader) → Known r → (b : ℕ) → SeenAs (knownStep r b) (sightOf (seenIn r) b)
+unfolding knownStep sightOf heldOf
+known-seen r k b =
+    by-test SeenAs (eqb b headMark) (λ h. head-seen r k)
+    (λ h. past-seen (r .store) (r .count) (k .size) (k .low) (r .opened) (r .pending) b)
+
+-- A fresh reader is known.
+pub fresh-known : Known fresh
+unfolding fresh
+fresh-known = record { size = length-replicate {A = ℕ} longestContent 0; low = omega arith }
+
+-- Any reader is known, as it is taken.
+known-of : (r : Reader) → Any r → Known (knownOf r)
+unfolding knownOf
+known-of r a =
+    either-way Known (leb (r .count) longestContent)
+    (λ l. record { size = a; low = leb-true (r .count) longestContent l })
+    (λ l. fresh-known)
+
+-- A known reader is taken as it is.
+known-same : (r : Reader) → Known r → knownOf r ≡ r
+unfolding knownOf
+known-same r k = rw (le-leb (r .count) longestContent (k .low))
+
+-- Every byte to any reader.
+any-seen : (r : Reader) → Any r → (b : ℕ) → SeenAs (stepOf r b) (sightOf (seenOf r) b)
+unfolding stepOf seenOf
+any-seen r a b = known-seen (knownOf r) (known-of r a) b
+
+-- The store keeps its size.
+pub step-size : (r : Reader) → Any r → (b : ℕ) → Any (stepOf r b .reader)
+step-size r a b = any-seen r a b .known .size
+
+-- The view of the reader after a step is the view's step.
+pub step-seen : (r : Reader) → Any r → (b : ℕ) → seenOf (stepOf r b .reader) ≡ seenStep (seenOf r) b
+unfolding seenOf
+step-seen r a b = ap seenIn (known-same (stepOf r b .reader) (any-seen r a b .known)) ∙ any-seen r a b .after
+
+-- The frames that a step hands out are those of the view's step.
+pub step-frames : (r : Reader) → Any r → (b : ℕ) → framesOf (stepOf r b) ≡ seenFrames (seenOf r) b
+step-frames r a b = any-seen r a b .handed
+
+-- ---- runs
+
+-- A run of any reader hands out what the run of its view does.
+pub handed-seen : (r : Reader) → Any r → (k : ℕ) (bs : List ℕ) → handedFrom r k bs ≡ seenHanded (seenOf r) k bs
+unfolding handedFrom seenHanded
+handed-seen r a k [] = refl
+handed-seen r a k (b ∷ bs) =
+    rw (step-frames r a b, handed-seen (stepOf r b .reader) (step-size r a b) (suc k) bs, step-seen r a b)
+
+-- A run over xs and then ys: the frames of xs, then those of ys from the state after xs, their places shifted.
+pub handed-append : (s : Seen) (k : ℕ) (xs ys : List ℕ)
+    → seenHanded s k (xs ++ ys) ≡ seenHanded s k xs ++ seenHanded (seenAfter s xs) (k + length xs) ys
+unfolding seenHanded seenAfter
+handed-append s k [] ys = rw add-zero
+handed-append s k (x ∷ xs) ys =
+    let shift : k + suc (length xs) ≡ suc k + length xs = omega arith in
+    rw (shift, handed-append (seenStep s x) (suc k) xs ys, append-assoc)
+
+-- The state after xs and then ys is the state after ys from the state after xs.
+pub after-append : (s : Seen) (xs ys : List ℕ) → seenAfter s (xs ++ ys) ≡ seenAfter (seenAfter s xs) ys
+unfolding seenAfter
+after-append s [] ys = refl
+after-append s (x ∷ xs) ys = after-append (seenStep s x) xs ys
+
+-- The head opens a frame from every state, and hands out nothing.
+pub handed-head : (s : Seen) (k : ℕ) (rest : List ℕ)
+    → seenHanded s k (headMark ∷ rest) ≡ seenHanded (within false []) (suc k) rest
+unfolding seenHanded sightOf
+handed-head s k rest = refl
+
+-- A fresh reader is outside a frame.
+fresh-seen : seenOf fresh ≡ outside
+unfolding seenOf fresh knownOf
+fresh-seen = refl
+
+-- What a fresh reader hands out, by its view.
+pub fresh-handed : (bs : List ℕ) → handedOf fresh bs ≡ seenHanded outside 0 bs
+fresh-handed bs = handed-seen fresh (fresh-known .size) 0 bs ∙ rw fresh-seen
+
+-- A step hands out nothing, or one frame: what holds of both kinds of step holds of every step.
+pub each-sight : (P : Sight → Type 0) → ((s : Seen) → P (quiet s)) → ((f : Frame) → P (hands f))
+    → (s : Seen) (b : ℕ) → P (sightOf s b)
+unfolding sightOf insideSight tailSight followSight contentSight
+each-sight P q h outside b = either-way P (eqb b headMark) (λ e. q _) (λ e. q _)
+each-sight P q h (within p c) b =
+    either-way P (eqb b headMark) (λ e. q _) (λ e.
+    either-way P (eqb b tailMark) (λ e. either-way P (not p && isContent c) (λ e. h _) (λ e. q _)) (λ e.
+    either-way P p (λ e. either-way P (mayFollow b) (λ e. content (originalOf b)) (λ e. q _)) (λ e.
+    either-way P (eqb b escapeMark) (λ e. q _) (λ e. content b))))
+  where
+    content : (a : ℕ) → P (contentSight c a)
+    content a = either-way P (ltb (length c) longestContent) (λ e. q _) (λ e. q _)
