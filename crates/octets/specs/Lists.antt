@@ -1,10 +1,12 @@
 -- Facts about lists and bytes that several crates use.
-use Prim.Native.Nat.{ℕ, zero, suc, _+_, _-_, _≤_, _<_}
+use Prim.Native.Nat.{ℕ, zero, suc, _+_, _-_, _≤_, _<_, min}
 use mathlib.Core.List.{List, [], _∷_, _++_, map, List·Memᴰ, List·Memᴰ·head, List·Memᴰ·tail}
 use mathlib.Core.Path.{_≡_, refl}
+use native.Mathlib.Decide.{decLe}
+use native.Mathlib.Nat.{min-eq-left, min-eq-right}
 use native.Mathlib.Omega.{arith}
 use lib.ListN.{length, getD, take, drop, length-drop}
-use lib.Seq.{take-all, take-take, take-nil}
+use lib.Seq.{take-all, take-take, take-nil, take-length}
 use Rattle.octets.specs.Octets.{Bytes}
 
 -- A part that lies in the first k elements is a part of those.
@@ -42,3 +44,11 @@ byte-at (b ∷ bs) (suc i) h = byte-at bs i (h .1)
 -- All of a list from a place on, as a part of it is said.
 pub rest-part : {A : Type 0} (l : List A) (n : ℕ) → take (length l - n) (drop n l) ≡ drop n l
 rest-part l n = take-all (length l - n) (drop n l) (rw length-drop (omega arith))
+
+-- The first k elements, or all where there are fewer.
+pub take-least : {A : Type 0} (k : ℕ) (l : List A) → take (min (length l) k) l ≡ take k l
+take-least k l = go (decLe (length l) k)
+  where
+    go : Dec (length l ≤ k) → take (min (length l) k) l ≡ take k l
+    go (yes h) = rw (min-eq-left h, take-length, take-all k l h)
+    go (no h) = let less : k ≤ length l = omega arith in rw (min-eq-right less)
