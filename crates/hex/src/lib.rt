@@ -1,11 +1,13 @@
 // Bytes as the papers print them: two capital hex digits each.
 ghost use mathlib.Core.Path.{_≡_};
 ghost use Prim.Native.Nat.{_<_};
+ghost use Rattle.octets.specs.Octets.{Front};
 ghost use Rattle.hex.specs.Hex.{Shown, digitOf, showOf};
 
 // Puts the digits of as many bytes as there is room for at the front of the output, and answers how many digits that is.
 pub fn show(bytes: &[u8], out: &mut [u8]) -> usize
-    ensures { λ r. ⌜ record { count = r; output = now (out .exit) } ≡ showOf (now (bytes .entry)) (now (out .entry)) ⌝ }
+    ensures shown { λ r. ⌜ record { count = r; output = now (out .exit) } ≡ showOf (now (bytes .entry)) (now (out .entry)) ⌝ }
+    ensures within { λ r. ⌜ Front r (now (out .exit)) ⌝ }
 {
     let n = octets::least(bytes.len(), out.len() / 2);
     let mut i = 0;

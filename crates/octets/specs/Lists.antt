@@ -1,13 +1,13 @@
 -- Facts about lists and bytes that several crates use.
 use Prim.Native.Nat.{ℕ, zero, suc, _+_, _-_, _≤_, _<_, min}
 use mathlib.Core.List.{List, [], _∷_, _++_, map, List·Memᴰ, List·Memᴰ·head, List·Memᴰ·tail}
-use mathlib.Core.Path.{_≡_, refl}
+use mathlib.Core.Path.{_≡_, refl, sym}
 use native.Mathlib.Decide.{decLe}
 use native.Mathlib.Nat.{min-eq-left, min-eq-right}
 use native.Mathlib.Omega.{arith}
 use lib.ListN.{length, getD, take, drop, length-drop}
-use lib.Seq.{take-all, take-take, take-nil, take-length}
-use Rattle.octets.specs.Octets.{Bytes}
+use lib.Seq.{take-all, take-take, take-nil, take-length, length-take-le}
+use Rattle.octets.specs.Octets.{Bytes, Front}
 
 -- A part that lies in the first k elements is a part of those.
 pub part-take : {A : Type 0} (m n k : ℕ) (l : List A) → n + m ≤ k → take m (drop n (take k l)) ≡ take m (drop n l)
@@ -44,6 +44,10 @@ byte-at (b ∷ bs) (suc i) h = byte-at bs i (h .1)
 -- All of a list from a place on, as a part of it is said.
 pub rest-part : {A : Type 0} (l : List A) (n : ℕ) → take (length l - n) (drop n l) ≡ drop n l
 rest-part l n = take-all (length l - n) (drop n l) (rw length-drop (omega arith))
+
+-- Bytes at the front of a buffer.
+pub front-of : (n : ℕ) (out : List ℕ) → n ≤ length out → Front n out
+front-of n out h = (h, sym (length-take-le n out h))
 
 -- The first k elements, or all where there are fewer.
 pub take-least : {A : Type 0} (k : ℕ) (l : List A) → take (min (length l) k) l ≡ take k l

@@ -1,7 +1,8 @@
 -- Lists of bytes: numbers spelled in them, their xor, zero runs, equal runs, one run laid into another.
-use Prim.Native.Nat.{ℕ, zero, suc, _+_, _*_, _-_, _/_, _%_, _<_}
+use Prim.Native.Nat.{ℕ, zero, suc, _+_, _*_, _-_, _/_, _%_, _≤_, _<_}
 use mathlib.Core.Bool.{Bool, true, false, _&&_}
 use mathlib.Core.List.{List, [], _∷_, _++_}
+use mathlib.Core.Path.{_≡_}
 use lib.Bits.{bitXor}
 use lib.Dec.{eqb}
 use lib.ListN.{length, take, drop}
@@ -49,6 +50,11 @@ sameBytes (x ∷ xs) (y ∷ ys) = eqb x y && sameBytes xs ys
 -- The buffer d with s laid into it from a place on: as much of s as fits, every other byte as it was.
 unfoldable pub laid : List ℕ → ℕ → List ℕ → List ℕ
 laid d at s = take at d ++ (take (length d - at) s ++ drop (at + length s) d)
+
+-- So many bytes stand at the front of a buffer. The second part follows from the first; with both a caller's `&out[..n]` is
+-- proved by itself.
+abbrev pub Front : ℕ → List ℕ → Type 0
+Front n out = (n ≤ length out) × (n ≡ length (take n out))
 
 -- The buffer with its first bytes written over and the rest as lent.
 unfoldable pub over : List ℕ → List ℕ → List ℕ

@@ -1,5 +1,6 @@
 // The refusal numbers of document 01's table by name, and the words that a program prints beside a number.
 ghost use mathlib.Core.Path.{_≡_};
+ghost use Rattle.octets.specs.Octets.{Front};
 ghost use Rattle.refusals.specs.Refusals.{Said, sayOf, wordsOf};
 
 pub const PAYLOAD_TOO_LONG: u8 = 1;
@@ -32,7 +33,8 @@ pub const BAD_NOTICE: u8 = 22;
 
 // Puts the words of a number at the front of the output, as much of them as fits, and answers how many bytes that is.
 pub fn words(number: u8, out: &mut [u8]) -> usize
-    ensures { λ r. ⌜ record { count = r; output = now (out .exit) } ≡ sayOf (wordsOf number) (now (out .entry)) ⌝ }
+    ensures said { λ r. ⌜ record { count = r; output = now (out .exit) } ≡ sayOf (wordsOf number) (now (out .entry)) ⌝ }
+    ensures within { λ r. ⌜ Front r (now (out .exit)) ⌝ }
 {
     match number {
         PAYLOAD_TOO_LONG => say(b"payload over 1,030 bytes", out),
@@ -54,7 +56,8 @@ pub fn words(number: u8, out: &mut [u8]) -> usize
 }
 
 fn say(text: &[u8], out: &mut [u8]) -> usize
-    ensures { λ r. ⌜ record { count = r; output = now (out .exit) } ≡ sayOf (now (text .entry)) (now (out .entry)) ⌝ }
+    ensures said { λ r. ⌜ record { count = r; output = now (out .exit) } ≡ sayOf (now (text .entry)) (now (out .entry)) ⌝ }
+    ensures within { λ r. ⌜ Front r (now (out .exit)) ⌝ }
 {
     octets::copy(text, out, 0);
     octets::least(text.len(), out.len())

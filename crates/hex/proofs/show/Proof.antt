@@ -6,7 +6,7 @@ use mathlib.Core.Path.{_≡_, refl, sym, ap, _∙_}
 use native.Mathlib.Omega.{arith}
 use lib.ListN.{length, take, length-set}
 use lib.Seq.{length-take-le}
-use Rattle.octets.specs.Lists.{take-least}
+use Rattle.octets.specs.Lists.{take-least, front-of}
 use Rattle.octets.specs.Octets.{over}
 use Rattle.octets.specs.OctetsLaws.{over-nil}
 use Rattle.hex.specs.Hex.{Shown, hexOf, showOf}
@@ -89,8 +89,10 @@ returns c =
       length-hex (take (l .i) (a .bytes .now)),
       length-take-le (l .i) (a .bytes .now) (omega arith),
       ap (λ (s : List ℕ). length (hexOf s)) all,
-    ) in
-    λ k. record { count = size k; output = (l .inv .3 ∙ ap (λ (s : List ℕ). over (hexOf s) (a .out .now)) all) k }
+    ) in (
+      λ k. record { count = size k; output = (l .inv .3 ∙ ap (λ (s : List ℕ). over (hexOf s) (a .out .now)) all) k },
+      front-of _ (l .out) (omega arith),
+    )
 
 pub show-spec : {M : Type 1} → statement M
 show-spec =

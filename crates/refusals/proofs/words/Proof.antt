@@ -107,98 +107,98 @@ same-length c = search needs
 
 returns : tie.Need-returns
 unfolding wordsOf
-returns c = at-number _ _ _ (c .before .before .say .ensures) (c .before .before .before .before .before .match .keys1)
+returns c = (at-number _ _ _ (c .before .before .say .ensures .0) (c .before .before .before .before .before .match .keys1), c .before .before .say .ensures .1)
 
 same-length-2 : tie.Need-same-length-2
 same-length-2 c = search needs
 
 returns-2 : tie.Need-returns-2
 unfolding wordsOf
-returns-2 c = at-number _ _ _ (c .before .before .say2 .ensures) (c .before .before .before .before .before .match .keys2)
+returns-2 c = (at-number _ _ _ (c .before .before .say2 .ensures .0) (c .before .before .before .before .before .match .keys2), c .before .before .say2 .ensures .1)
 
 same-length-3 : tie.Need-same-length-3
 same-length-3 c = search needs
 
 returns-3 : tie.Need-returns-3
 unfolding wordsOf
-returns-3 c = at-number _ _ _ (c .before .before .say3 .ensures) (c .before .before .before .before .before .match .keys3)
+returns-3 c = (at-number _ _ _ (c .before .before .say3 .ensures .0) (c .before .before .before .before .before .match .keys3), c .before .before .say3 .ensures .1)
 
 same-length-4 : tie.Need-same-length-4
 same-length-4 c = search needs
 
 returns-4 : tie.Need-returns-4
 unfolding wordsOf
-returns-4 c = at-number _ _ _ (c .before .before .say4 .ensures) (c .before .before .before .before .before .match .keys4)
+returns-4 c = (at-number _ _ _ (c .before .before .say4 .ensures .0) (c .before .before .before .before .before .match .keys4), c .before .before .say4 .ensures .1)
 
 same-length-5 : tie.Need-same-length-5
 same-length-5 c = search needs
 
 returns-5 : tie.Need-returns-5
 unfolding wordsOf
-returns-5 c = at-number _ _ _ (c .before .before .say5 .ensures) (c .before .before .before .before .before .match .keys5)
+returns-5 c = (at-number _ _ _ (c .before .before .say5 .ensures .0) (c .before .before .before .before .before .match .keys5), c .before .before .say5 .ensures .1)
 
 same-length-6 : tie.Need-same-length-6
 same-length-6 c = search needs
 
 returns-6 : tie.Need-returns-6
 unfolding wordsOf
-returns-6 c = at-number _ _ _ (c .before .before .say6 .ensures) (c .before .before .before .before .before .match .keys6)
+returns-6 c = (at-number _ _ _ (c .before .before .say6 .ensures .0) (c .before .before .before .before .before .match .keys6), c .before .before .say6 .ensures .1)
 
 same-length-7 : tie.Need-same-length-7
 same-length-7 c = search needs
 
 returns-7 : tie.Need-returns-7
 unfolding wordsOf
-returns-7 c = at-number _ _ _ (c .before .before .say7 .ensures) (c .before .before .before .before .before .match .keys7)
+returns-7 c = (at-number _ _ _ (c .before .before .say7 .ensures .0) (c .before .before .before .before .before .match .keys7), c .before .before .say7 .ensures .1)
 
 same-length-8 : tie.Need-same-length-8
 same-length-8 c = search needs
 
 returns-8 : tie.Need-returns-8
 unfolding wordsOf
-returns-8 c = at-number _ _ _ (c .before .before .say8 .ensures) (c .before .before .before .before .before .match .keys8)
+returns-8 c = (at-number _ _ _ (c .before .before .say8 .ensures .0) (c .before .before .before .before .before .match .keys8), c .before .before .say8 .ensures .1)
 
 same-length-9 : tie.Need-same-length-9
 same-length-9 c = search needs
 
 returns-9 : tie.Need-returns-9
 unfolding wordsOf
-returns-9 c = at-number _ _ _ (c .before .before .say9 .ensures) (c .before .before .before .before .before .match .keys9)
+returns-9 c = (at-number _ _ _ (c .before .before .say9 .ensures .0) (c .before .before .before .before .before .match .keys9), c .before .before .say9 .ensures .1)
 
 same-length-10 : tie.Need-same-length-10
 same-length-10 c = search needs
 
 returns-10 : tie.Need-returns-10
 unfolding wordsOf
-returns-10 c = at-number _ _ _ (c .before .before .say10 .ensures) (c .before .before .before .before .before .match .keys10)
+returns-10 c = (at-number _ _ _ (c .before .before .say10 .ensures .0) (c .before .before .before .before .before .match .keys10), c .before .before .say10 .ensures .1)
 
 same-length-11 : tie.Need-same-length-11
 same-length-11 c = search needs
 
 returns-11 : tie.Need-returns-11
 unfolding wordsOf
-returns-11 c = at-number _ _ _ (c .before .before .say11 .ensures) (c .before .before .before .before .before .match .keys11)
+returns-11 c = (at-number _ _ _ (c .before .before .say11 .ensures .0) (c .before .before .before .before .before .match .keys11), c .before .before .say11 .ensures .1)
 
 same-length-12 : tie.Need-same-length-12
 same-length-12 c = search needs
 
 returns-12 : tie.Need-returns-12
 unfolding wordsOf
-returns-12 c = at-number _ _ _ (c .before .before .say12 .ensures) (c .before .before .before .before .before .match .keys12)
+returns-12 c = (at-number _ _ _ (c .before .before .say12 .ensures .0) (c .before .before .before .before .before .match .keys12), c .before .before .say12 .ensures .1)
 
 same-length-13 : tie.Need-same-length-13
 same-length-13 c = search needs
 
 returns-13 : tie.Need-returns-13
 unfolding wordsOf
-returns-13 c = at-number _ _ _ (c .before .before .say13 .ensures) (c .before .before .before .before .before .match .keys13)
+returns-13 c = (at-number _ _ _ (c .before .before .say13 .ensures .0) (c .before .before .before .before .before .match .keys13), c .before .before .say13 .ensures .1)
 
 same-length-14 : tie.Need-same-length-14
 same-length-14 c = search needs
 
 returns-14 : tie.Need-returns-14
 unfolding wordsOf
-returns-14 c = at-number _ _ _ (c .before .before .say14 .ensures) (c .before .before .before .before .before .match .keys14)
+returns-14 c = (at-number _ _ _ (c .before .before .say14 .ensures .0) (c .before .before .before .before .before .match .keys14), c .before .before .say14 .ensures .1)
 
 same-length-15 : tie.Need-same-length-15
 same-length-15 c = search needs
