@@ -1,6 +1,6 @@
 -- What the reader promises, to be read without the proofs. Each statement is proved in the file named beside it.
 use Prim.Native.Nat.{ℕ, _+_, _-_, _≤_}
-use mathlib.Core.List.{List, [], _∷_, _++_, List·Memᴰ}
+use mathlib.Core.List.{List, [], _∷_, _++_, map, List·Memᴰ}
 use mathlib.Core.Path.{_≡_}
 use lib.ListN.{length, take, drop}
 use Rattle.octets.specs.Octets.{Bytes}
@@ -9,7 +9,7 @@ use Rattle.wire.specs.Frame.{Frame, Acceptable, wireOf, longestPayload}
 use Rattle.wire.specs.Write.{writeOf, written}
 use Rattle.reader.specs.Reader.{fresh}
 use Rattle.reader.specs.Table.{Row, benchTable, printedRow}
-use Rattle.reader.specs.Runs.{Placed, placed, handedOf, handedFrom, RisingFrom}
+use Rattle.reader.specs.Runs.{Placed, placed, later, handedOf, RisingFrom}
 use Rattle.reader.specs.declared.steps.Reader.{Reader}
 
 -- A reader as the language makes one: its store has 1,035 bytes. Count and flags are any.
@@ -41,12 +41,12 @@ ReadBack =
     → (output : List ℕ) → length (wireOf (p .frame)) ≤ length output
     → writeOf (p .frame) output ≡ written (upTo (p .place) (length (wireOf (p .frame))) bytes) output
 
--- W2, resynchronisation (Resync.antt). After any bytes to any reader, from the next head on the frames handed out, and their
--- places, are those of a fresh reader.
+-- W2, resynchronisation (Resync.antt). After any bytes to any reader, from the next head on the frames handed out are those that
+-- a fresh reader hands out, their places counted on. (EveryStretch says which those are.)
 abbrev pub Resync : Type 0
 Resync =
     (r : Reader) (noise rest : List ℕ) → Any r
-    → handedOf r (noise ++ (headMark ∷ rest)) ≡ handedOf r noise ++ handedFrom fresh (length noise) (headMark ∷ rest)
+    → handedOf r (noise ++ (headMark ∷ rest)) ≡ handedOf r noise ++ map (later (length noise)) (handedOf fresh (headMark ∷ rest))
 
 -- W3, stretches (Stretches.antt). Over any bytes, from a fresh reader:
 pub record Stretches (bytes : List ℕ) : Type 0 where

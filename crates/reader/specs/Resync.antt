@@ -1,11 +1,16 @@
 -- W2: after any bytes, from the next head on, the reader is as good as a fresh one.
-use mathlib.Core.List.{_∷_, _++_}
+use mathlib.Core.Bool.{false}
+use mathlib.Core.List.{List, [], _∷_, _++_}
+use mathlib.Core.Path.{ap}
 use native.Mathlib.Nat.{zero-add}
+use native.Mathlib.Numerals.{add-one}
 use lib.ListN.{length}
 use Rattle.wire.specs.Escape.{headMark}
 use Rattle.reader.specs.Reader.{fresh}
+use Rattle.reader.specs.Runs.{Placed}
 use Rattle.reader.specs.Promises.{Resync}
-use Rattle.reader.specs.SeenLaws.{fresh-known, handed-seen, handed-append, handed-head}
+use Rattle.reader.specs.Seen.{outside, within, seenOf, seenHanded}
+use Rattle.reader.specs.SeenLaws.{handed-seen, handed-append, handed-head, handed-later, fresh-handed}
 
 -- The bytes before the head, then the run from the head on, which is the same from every state.
 pub resync : Resync
@@ -16,6 +21,7 @@ resync r noise rest a =
       handed-append,
       handed-head,
       zero-add,
-      handed-seen fresh (fresh-known .size) (length noise) (headMark ∷ rest),
-      handed-head,
+      fresh-handed (headMark ∷ rest),
+      handed-head outside 0 rest,
     )
+    (ap (λ (l : List Placed). seenHanded (seenOf r) 0 noise ++ l) (rw add-one at (handed-later (within false []) (length noise) 1 rest)))

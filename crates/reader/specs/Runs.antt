@@ -1,5 +1,5 @@
 -- Runs of the reader: the steps' definition folded over bytes.
-use Prim.Native.Nat.{ℕ, suc, _≤_}
+use Prim.Native.Nat.{ℕ, suc, _+_, _≤_}
 use mathlib.Core.List.{List, [], _∷_, _++_, map}
 use Rattle.wire.specs.Frame.{Frame}
 use Rattle.reader.specs.Reader.{stepOf, framesOf}
@@ -21,6 +21,10 @@ handedFrom r k (b ∷ bs) = map (placed k) (framesOf (stepOf r b)) ++ handedFrom
 -- The same with places counted from 0.
 abbrev pub handedOf : Reader → List ℕ → List Placed
 handedOf r bs = handedFrom r 0 bs
+
+-- The same frame with its place counted from n bytes earlier.
+abbrev pub later : ℕ → Placed → Placed
+later n p = placed (n + p .place) (p .frame)
 
 -- Places that rise strictly, from k on.
 abbrev pub RisingFrom : ℕ → List Placed → Type 0

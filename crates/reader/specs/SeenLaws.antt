@@ -1,7 +1,7 @@
 -- The laws of Seen: the reader's steps and runs are those of its view.
 use Prim.Native.Nat.{ℕ, suc, _+_, _-_, _≤_, _<_}
 use mathlib.Core.Bool.{Bool, true, false, cond, not, _&&_}
-use mathlib.Core.List.{List, [], _∷_, _++_, append-assoc}
+use mathlib.Core.List.{List, [], _∷_, _++_, map, append-assoc, map-append, map-map}
 use mathlib.Core.Path.{_≡_, refl, ap, _∙_}
 use native.Mathlib.Nat.{add-zero}
 use native.Mathlib.Numerals.{add-one}
@@ -16,7 +16,7 @@ use Rattle.wire.specs.FrameLaws.{content-long}
 use Rattle.reader.specs.Reader.{fresh, knownOf, heldOf, closedOf, waitingOf, openedOf, answers}
 use Rattle.reader.specs.Reader.{payloadIn, framesIn, framesOf}
 use Rattle.reader.specs.Reader.{contentStep, followStep, tailStep, insideStep, headStep, knownStep, stepOf}
-use Rattle.reader.specs.Runs.{handedFrom, handedOf}
+use Rattle.reader.specs.Runs.{placed, later, handedFrom, handedOf}
 use Rattle.reader.specs.Promises.{Any}
 use Rattle.octets.specs.Choice.{by-test, either-way, both}
 use Rattle.octets.specs.Lists.{part-take}
@@ -187,6 +187,14 @@ unfolding handedFrom seenHanded
 handed-seen r a k [] = refl
 handed-seen r a k (b ∷ bs) =
     rw (step-frames r a b, handed-seen (stepOf r b .reader) (step-size r a b) (suc k) bs, step-seen r a b)
+
+-- A run whose places are counted from further on hands out the same frames at later places.
+pub handed-later : (s : Seen) (n k : ℕ) (bs : List ℕ) → seenHanded s (n + k) bs ≡ map (later n) (seenHanded s k bs)
+unfolding seenHanded
+handed-later s n k [] = refl
+handed-later s n k (b ∷ bs) =
+    let on : suc (n + k) ≡ n + suc k = omega arith in
+    rw (on, handed-later (seenStep s b) n (suc k) bs, map-append, map-map)
 
 -- A run over xs and then ys: the frames of xs, then those of ys from the state after xs, their places shifted.
 pub handed-append : (s : Seen) (k : ℕ) (xs ys : List ℕ)

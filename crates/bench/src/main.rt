@@ -1,0 +1,39 @@
+// Runs the bench examples of document 01 that are run and not proved.
+use libc::STDOUT_FILENO;
+use wire::Written;
+
+fn main() {
+    io::write_all(STDOUT_FILENO, b"bench\n");
+    try_write(&[0x00; 1030], &mut [0u8; 2072]);
+    try_write(&[0x00; 1031], &mut [0u8; 2072]);
+    try_write(&[0xDB; 1030], &mut [0u8; 2072]);
+    try_write(&[0xDB; 1030], &mut [0u8; 2066]);
+}
+
+// Writes a frame with the command of a packet, and says what came of it.
+fn try_write(payload: &[u8], out: &mut [u8]) {
+    io::write_all(STDOUT_FILENO, b"payload ");
+    io::print_decimal(STDOUT_FILENO, payload.len() as u64);
+    io::write_all(STDOUT_FILENO, b", output ");
+    io::print_decimal(STDOUT_FILENO, out.len() as u64);
+    io::write_all(STDOUT_FILENO, b": ");
+    match wire::write(0x05, payload, out) {
+        Written::Count(count) => {
+            io::print_decimal(STDOUT_FILENO, count as u64);
+            io::write_all(STDOUT_FILENO, b" bytes written\n");
+        }
+        Written::Refused(number) => {
+            show_refusal(number);
+        }
+    }
+}
+
+fn show_refusal(number: u8) {
+    io::write_all(STDOUT_FILENO, b"refused ");
+    io::print_decimal(STDOUT_FILENO, number as u64);
+    io::write_all(STDOUT_FILENO, b", ");
+    let mut words = [0u8; 64];
+    let n = refusals::words(number, &mut words);
+    io::write_all(STDOUT_FILENO, &words[..n]);
+    io::write_all(STDOUT_FILENO, b"\n");
+}
