@@ -1,6 +1,6 @@
 // Runs the bench examples of document 01 that are run and not proved.
 use libc::STDOUT_FILENO;
-use wire::Written;
+use refusals::Written;
 
 fn main() {
     io::write_all(STDOUT_FILENO, b"bench\n");

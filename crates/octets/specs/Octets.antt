@@ -1,6 +1,6 @@
 -- Lists of bytes: numbers spelled in them, their xor, zero runs, equal runs, one run laid into another.
 use Prim.Native.Nat.{ℕ, zero, suc, _+_, _*_, _-_, _/_, _%_, _≤_, _<_}
-use mathlib.Core.Bool.{Bool, true, false, _&&_}
+use mathlib.Core.Bool.{Bool, true, false, cond, _&&_}
 use mathlib.Core.List.{List, [], _∷_, _++_}
 use mathlib.Core.Path.{_≡_}
 use lib.Bits.{bitXor}
@@ -46,6 +46,31 @@ sameBytes [] [] = true
 sameBytes [] (y ∷ ys) = false
 sameBytes (x ∷ xs) [] = false
 sameBytes (x ∷ xs) (y ∷ ys) = eqb x y && sameBytes xs ys
+
+-- The n bytes from a place on, or as many of them as there are.
+unfoldable pub partOf : List ℕ → ℕ → ℕ → List ℕ
+partOf s at n = take n (drop at s)
+
+-- How many bytes stand before the first zero.
+unfoldable pub textLength : List ℕ → ℕ
+textLength [] = 0
+textLength (b ∷ bs) = cond (eqb b 0) 0 (suc (textLength bs))
+
+-- Nothing but zero follows a zero.
+unfoldable pub zeroFilled : List ℕ → Bool
+zeroFilled s = allZero (drop (textLength s) s)
+
+-- The xor of words of four bytes, begun with a; a rest that is no word is left out.
+unfoldable pub xorWordsFrom : ℕ → List ℕ → ℕ
+xorWordsFrom a [] = a
+xorWordsFrom a (b ∷ []) = a
+xorWordsFrom a (b ∷ c ∷ []) = a
+xorWordsFrom a (b ∷ c ∷ d ∷ []) = a
+xorWordsFrom a (b ∷ c ∷ d ∷ e ∷ bs) = xorWordsFrom (bitXor a (little (b ∷ c ∷ d ∷ e ∷ []))) bs
+
+-- The xor of the words of a run.
+abbrev pub xorWords : List ℕ → ℕ
+xorWords s = xorWordsFrom 0 s
 
 -- The buffer d with s laid into it from a place on: as much of s as fits, every other byte as it was.
 unfoldable pub laid : List ℕ → ℕ → List ℕ → List ℕ

@@ -7,13 +7,13 @@ use native.Mathlib.Decide.{decLe}
 use native.Mathlib.Nat.{div-add-mod', le-trans, le-add-right, min-eq-left, min-eq-right, div-lt-iff-lt-mul, pow-suc}
 use native.Mathlib.Numerals.{add-one, add-two}
 use native.Mathlib.Omega.{arith}
-use borrow.Author.Tests.{eq-eqb, eqb-true}
+use borrow.Author.Tests.{eq-eqb, eqb-true, ne-eqb}
 use lib.Bits.{bitXor}
 use lib.Dec.{eqb, lit<}
 use lib.ListN.{length, getD, take, drop, set, length-append, length-take, length-drop, length-set, drop-of-length-le}
 use lib.Seq.{take-suc, drop-cons, drop-length, take-length, take-all, take-nil, drop-nil, getD-drop, set-append-seam, append-snoc, paste, sets, take-at, drop-append-add, drop-drop}
 use Rattle.octets.specs.Choice.{both}
-use Rattle.octets.specs.Octets.{Bytes, little, spelled, numberAt, xorFrom, xorOf, allZero, sameBytes, laid, over}
+use Rattle.octets.specs.Octets.{textLength, xorWordsFrom, Bytes, little, spelled, numberAt, xorFrom, xorOf, allZero, sameBytes, laid, over}
 
 -- ---- xor
 
@@ -193,3 +193,51 @@ over-over short front out h =
     let more : length short + (length front - length short) ≡ length front = omega arith in
     ap (λ (l : List ℕ). front ++ l)
     (rw (← more) (drop-append-add short (drop (length short) out) (length front - length short) ∙ drop-drop (length front - length short) (length short) out))
+
+-- ---- texts
+
+-- A byte that is not zero is one more of the text.
+pub text-more : (s : List ℕ) (i : ℕ) → i < length s → (getD s i 0 ≡ 0 → ⊥) → textLength (drop i s) ≡ suc (textLength (drop (i + 1) s))
+unfolding textLength
+text-more s i h n = rw (add-one, drop-cons s i 0 h, ne-eqb (getD s i 0) 0 n)
+
+-- The text ends at a zero, and at the end.
+pub text-zero : (s : List ℕ) (i : ℕ) → i < length s → getD s i 0 ≡ 0 → textLength (drop i s) ≡ 0
+unfolding textLength
+text-zero s i h z = rw (drop-cons s i 0 h, z)
+
+pub text-end : (s : List ℕ) (i : ℕ) → length s ≤ i → textLength (drop i s) ≡ 0
+unfolding textLength
+text-end s i h = rw (drop-of-length-le s h)
+
+-- ---- words
+
+-- The first word of a run, and the rest of it.
+words-front : (a : ℕ) (s : List ℕ) → 4 ≤ length s → xorWordsFrom a s ≡ xorWordsFrom (bitXor a (little (take 4 s))) (drop 4 s)
+unfolding xorWordsFrom
+words-front a [] h = absurd (omega arith)
+words-front a (b ∷ []) h = absurd (omega arith)
+words-front a (b ∷ c ∷ []) h = absurd (omega arith)
+words-front a (b ∷ c ∷ d ∷ []) h = absurd (omega arith)
+words-front a (b ∷ c ∷ d ∷ e ∷ s) h = refl
+
+-- One word more, as a loop takes it.
+pub words-more : (a : ℕ) (s : List ℕ) (i : ℕ) → i < length s / 4
+    → xorWordsFrom a (drop (i * 4) s) ≡ xorWordsFrom (bitXor a (numberAt 4 s (i * 4))) (drop ((i + 1) * 4) s)
+unfolding numberAt
+words-more a s i h =
+    let next : i * 4 + 4 ≡ (i + 1) * 4 = omega arith in
+    words-front a (drop (i * 4) s) (rw length-drop (omega arith))
+    ∙ ap (xorWordsFrom (bitXor a (little (take 4 (drop (i * 4) s))))) (drop-drop 4 (i * 4) s ∙ ap (λ (n : ℕ). drop n s) next)
+
+-- Where no word is left, the xor is what it was.
+pub words-end : (a : ℕ) (s : List ℕ) (i : ℕ) → length s / 4 ≤ i → xorWordsFrom a (drop (i * 4) s) ≡ a
+unfolding xorWordsFrom
+words-end a s i h = few (drop (i * 4) s) (rw length-drop (omega arith))
+  where
+    few : (l : List ℕ) → length l < 4 → xorWordsFrom a l ≡ a
+    few [] h = refl
+    few (b ∷ []) h = refl
+    few (b ∷ c ∷ []) h = refl
+    few (b ∷ c ∷ d ∷ []) h = refl
+    few (b ∷ c ∷ d ∷ e ∷ l) h = absurd (omega arith)

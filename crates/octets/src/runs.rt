@@ -1,7 +1,9 @@
 // Whole runs of bytes: their xor, whether they are zeros, whether two are the same, a copy.
 ghost use mathlib.Core.Path.{_≡_};
 ghost use Prim.Native.Nat.{min};
-ghost use Rattle.octets.specs.Octets.{xorOf, allZero, sameBytes, laid};
+ghost use lib.ListN.{replicate};
+ghost use Rattle.octets.specs.Octets.{xorOf, xorWords, allZero, sameBytes, laid};
+use crate::numbers::four_at;
 
 // The xor of all bytes, 0 for none.
 pub fn xor(s: &[u8]) -> u8
@@ -11,6 +13,19 @@ pub fn xor(s: &[u8]) -> u8
     let mut i = 0;
     while i < s.len() {
         sum = sum ^ s[i];
+        i += 1;
+    }
+    sum
+}
+
+// The xor of the words of four bytes, low byte first; a rest that is no word is left out.
+pub fn xor_words(s: &[u8]) -> u32
+    ensures { λ r. ⌜ r ≡ xorWords (now (s .entry)) ⌝ }
+{
+    let mut sum: u32 = 0;
+    let mut i = 0;
+    while i < s.len() / 4 {
+        sum = sum ^ four_at(s, i * 4);
         i += 1;
     }
     sum
@@ -58,6 +73,21 @@ pub fn copy(s: &[u8], d: &mut [u8], at: usize)
     let mut i = 0;
     while i < n {
         d[at + i] = s[i];
+        i += 1;
+    }
+}
+
+// n times the same byte laid into d from a place on: as many as fit.
+pub fn fill(d: &mut [u8], at: usize, n: usize, byte: u8)
+    ensures { λ _. ⌜ now (d .exit) ≡ laid (now (d .entry)) at (replicate n byte) ⌝ }
+{
+    if d.len() <= at {
+        return;
+    }
+    let most = least(n, d.len() - at);
+    let mut i = 0;
+    while i < most {
+        d[at + i] = byte;
         i += 1;
     }
 }

@@ -6,7 +6,8 @@ use lib.ListN.{length, take, drop}
 use Rattle.octets.specs.Octets.{Bytes}
 use Rattle.wire.specs.Escape.{headMark}
 use Rattle.wire.specs.Frame.{Frame, Acceptable, wireOf, longestPayload}
-use Rattle.wire.specs.Write.{writeOf, written}
+use Rattle.wire.specs.Write.{writeOf}
+use Rattle.refusals.specs.Written.{written}
 use Rattle.reader.specs.Reader.{fresh}
 use Rattle.reader.specs.Table.{Row, benchTable, printedRow}
 use Rattle.reader.specs.Runs.{Placed, placed, later, handedOf, RisingFrom}

@@ -4,6 +4,7 @@ use mathlib.Core.Bool.{Bool, true, false, cond, not, _&&_}
 use mathlib.Core.List.{List, [], _∷_}
 use lib.Dec.{eqb, leb, ltb}
 use lib.ListN.{length, getD, take, drop, set, replicate}
+use Rattle.octets.specs.Octets.{partOf}
 use Rattle.wire.specs.Escape.{headMark, escapeMark, tailMark, mayFollow, originalOf}
 use Rattle.wire.specs.Frame.{Frame, longestContent, isContent}
 use Rattle.reader.specs.declared.steps.Reader.{Reader}
@@ -77,8 +78,8 @@ unfoldable pub stepOf : Reader → ℕ → Stepped
 stepOf r b = knownStep (knownOf r) b
 
 -- The payload of a handed-out frame: so many bytes of the store, from the fifth on.
-unfoldable pub payloadIn : List ℕ → ℕ → List ℕ
-payloadIn store n = take n (drop 4 store)
+abbrev pub payloadIn : List ℕ → ℕ → List ℕ
+payloadIn store n = partOf store 4 n
 
 -- What an answer says: the frames that it hands out, one or none.
 abbrev pub framesIn : Heard → Reader → List Frame

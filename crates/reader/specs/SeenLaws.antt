@@ -10,6 +10,7 @@ use borrow.Author.Tests.{leb-true, le-leb, ltb-true}
 use lib.Dec.{eqb, leb, ltb}
 use lib.ListN.{length, getD, take, set, length-set, length-replicate}
 use lib.Seq.{length-take-le, take-suc-set, getD-take}
+use Rattle.octets.specs.Octets.{partOf}
 use Rattle.wire.specs.Escape.{headMark, escapeMark, tailMark, mayFollow, originalOf}
 use Rattle.wire.specs.Frame.{Frame, longestContent, isContent, frameIn}
 use Rattle.wire.specs.FrameLaws.{content-long}
@@ -85,7 +86,7 @@ module _ (store : List ℕ) (count : ℕ) (size : length store ≡ longestConten
   -- The frame that lies in the store is the one that the content so far carries.
   frame-held : 5 ≤ count
       → _≡_ {A = Frame} (record { command = getD store 3 0; payload = payloadIn store (count - 5) }) (frameIn (take count store))
-  unfolding payloadIn
+  unfolding partOf
   frame-held h = rw (held-long, getD-take count store 3 0 (omega arith), part-take (count - 5) 4 count store (omega arith))
 
   -- Where the content so far passes the test, the count is at least 5.

@@ -186,12 +186,5 @@ fn holds_content(store: &[u8; 1035], count: usize) -> bool
 pub fn payload(store: &[u8], count: usize) -> &[u8]
     ensures { λ r. ⌜ now r ≡ payloadIn (now (store .entry)) count ⌝ }
 {
-    if store.len() < 4 {
-        return &store[..0];
-    }
-    let rest = &store[4..];
-    if rest.len() < count {
-        return rest;
-    }
-    &rest[..count]
+    octets::part(store, 4, count)
 }

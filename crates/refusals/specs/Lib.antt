@@ -1,2 +1,3 @@
--- What the contract of this crate cites.
+-- What the contracts of this crate, and of every call that writes, cite.
 pub mod Refusals
+pub mod Written

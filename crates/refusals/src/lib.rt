@@ -31,6 +31,12 @@ pub const MODULE_REFUSED: u8 = 21;
 
 pub const BAD_NOTICE: u8 = 22;
 
+// How many bytes were written at the front of an output, or the refusal number.
+pub enum Written {
+    Count(usize),
+    Refused(u8),
+}
+
 // Puts the words of a number at the front of the output, as much of them as fits, and answers how many bytes that is.
 pub fn words(number: u8, out: &mut [u8]) -> usize
     ensures said { λ r. ⌜ record { count = r; output = now (out .exit) } ≡ sayOf (wordsOf number) (now (out .entry)) ⌝ }

@@ -12,7 +12,8 @@ use borrow.Author.Tests.{lt-ltb, le-ltb}
 use Rattle.octets.specs.OctetsLaws.{over-nil, over-laid, over-put, over-sets, over-over, length-over, length-spelled}
 use Rattle.wire.specs.Escape.{headMark, escapeMark, tailMark, isMark, secondOf, escapeOf, escaped}
 use Rattle.refusals.specs.Refusals.{payloadTooLong, noRoom}
-use Rattle.wire.specs.Write.{writeOf, refused, written}
+use Rattle.wire.specs.Write.{writeOf}
+use Rattle.refusals.specs.Written.{refused, written}
 use Rattle.wire.specs.EscapeLaws.{escape-mark, escape-plain, escaped-append, escaped-snoc}
 use Rattle.wire.specs.FrameLaws.{length-unchecked, length-content}
 use Rattle.wire.specs.Frame.{Frame, device, longestPayload, uncheckedOf, contentOf, wireForm, wireOf}

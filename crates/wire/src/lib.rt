@@ -12,5 +12,4 @@ pub use escape::HEAD;
 pub use escape::TAIL;
 pub use escape::may_follow;
 pub use escape::original;
-pub use writer::Written;
 pub use writer::write;

@@ -6,7 +6,8 @@ ghost use lib.Seq.{sets};
 ghost use Rattle.octets.specs.Octets.{over};
 ghost use Rattle.wire.specs.Escape.{escapeOf};
 ghost use Rattle.wire.specs.Frame.{wireForm};
-ghost use Rattle.wire.specs.Write.{Out, writeOf};
+ghost use Rattle.refusals.specs.Written.{Out};
+ghost use Rattle.wire.specs.Write.{writeOf};
 use crate::content::PAYLOAD_MOST;
 use crate::content::content_of;
 use crate::escape::ESCAPE;
@@ -14,12 +15,7 @@ use crate::escape::HEAD;
 use crate::escape::TAIL;
 use crate::escape::is_mark;
 use crate::escape::second;
-
-// How many bytes were written at the front of the output, or the refusal number.
-pub enum Written {
-    Count(usize),
-    Refused(u8),
-}
+use refusals::Written;
 
 // Writes the wire form of a frame into the output.
 pub fn write(command: u8, payload: &[u8], out: &mut [u8]) -> Written

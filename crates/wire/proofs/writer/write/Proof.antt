@@ -7,7 +7,7 @@ use lib.ListN.{length, take, length-take}
 use lib.Seq.{length-take-le}
 use Rattle.octets.specs.Octets.{over}
 use Rattle.wire.specs.Frame.{Frame, wireForm, wireOf}
-use Rattle.wire.specs.Write.{Out, written}
+use Rattle.refusals.specs.Written.{Out, written}
 use Rattle.wire.specs.WriteLaws.{write-too-long, write-no-room, write-done}
 use borrow.Author.Needs.{needs}
 use Rattle.wire.proofs.writer.write.Statement.{statement}

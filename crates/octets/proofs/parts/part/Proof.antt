@@ -1,24 +1,24 @@
--- `reader::payload`: the part from the fifth byte on, cut at the count.
+-- `octets::part`: the part from the place on, cut at the count.
+use Prim.Native.Nat.{_≤_}
 use mathlib.Core.Path.{sym, ap, _∙_}
 use native.Mathlib.Omega.{arith}
 use lib.ListN.{length, take, drop, drop-of-length-le, length-drop}
 use lib.Seq.{take-all, take-nil, length-take-le}
-use Prim.Native.Nat.{_≤_}
 use Rattle.octets.specs.Lists.{rest-part}
-use Rattle.reader.specs.Reader.{payloadIn}
+use Rattle.octets.specs.Octets.{partOf}
 use borrow.Author.Needs.{needs}
-use Rattle.reader.proofs.steps.payload.Statement.{statement}
-use Rattle.reader.proofs.steps.payload.Tie as tie
+use Rattle.octets.proofs.parts.part.Statement.{statement}
+use Rattle.octets.proofs.parts.part.Tie as tie
 
 slice-aggregate-result : tie.Need-slice-aggregate-result
 slice-aggregate-result c = search needs
 
 returns : tie.Need-returns
-unfolding payloadIn
+unfolding partOf
 returns c =
     let a = c .before .before .args in
-    let short : length (a .store .now) ≤ 4 = omega arith in
-    rw (drop-of-length-le (a .store .now) short) (sym (take-nil (a .count)))
+    let short : length (a .s .now) ≤ a .at = omega arith in
+    rw (drop-of-length-le (a .s .now) short) (sym (take-nil (a .n)))
 
 sub-rest : tie.Need-sub-rest
 sub-rest c = search needs
@@ -30,25 +30,25 @@ part-rest-end : tie.Need-part-rest-end
 part-rest-end c = search needs
 
 returns-2 : tie.Need-returns-2
-unfolding payloadIn
+unfolding partOf
 returns-2 c =
     let a = c .before .before .before .args in
-    let short : length (drop 4 (a .store .now)) ≤ a .count = rw length-drop (omega arith) in
-    rest-part (a .store .now) 4 ∙ sym (take-all (a .count) (drop 4 (a .store .now)) short)
+    let short : length (drop (a .at) (a .s .now)) ≤ a .n = rw length-drop (omega arith) in
+    rest-part (a .s .now) (a .at) ∙ sym (take-all (a .n) (drop (a .at) (a .s .now)) short)
 
 slice-aggregate-result-2 : tie.Need-slice-aggregate-result-2
 slice-aggregate-result-2 c =
     let a = c .before .before .before .before .args in
-    sym (length-take-le _ _ (rw (rest-part (a .store .now) 4, length-drop) (omega arith)))
+    sym (length-take-le _ _ (rw (rest-part (a .s .now) (a .at), length-drop) (omega arith)))
 
 returns-3 : tie.Need-returns-3
-unfolding payloadIn
+unfolding partOf
 returns-3 c =
     let a = c .before .before .before .before .args in
-    ap (take (a .count)) (rest-part (a .store .now) 4)
+    ap (take (a .n)) (rest-part (a .s .now) (a .at))
 
-pub payload-spec : {M : Type 1} → statement M
-payload-spec =
+pub part-spec : {M : Type 1} → statement M
+part-spec =
     tie.close
     (tie.spec
     slice-aggregate-result

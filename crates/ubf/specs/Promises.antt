@@ -1,0 +1,76 @@
+-- What UBF files promise, to be read without the proofs. Each statement is proved in the file named beside it.
+use Prim.Native.Nat.{ℕ, _+_, _^_, _≤_, _<_}
+use mathlib.Core.Bool.{true}
+use mathlib.Core.List.{List, [], _∷_, _++_, List·Memᴰ}
+use mathlib.Core.Path.{_≡_}
+use lib.Dec.{leb}
+use lib.ListN.{length, take, drop}
+use Rattle.octets.specs.Octets.{Bytes, partOf, xorWords}
+use Rattle.kinds.specs.Kinds.{kindOf, baseOf, numberOf, fitsFile}
+use Rattle.kinds.specs.declared.Kind.{Kind}
+use Rattle.refusals.specs.Written.{written}
+use Rattle.ubf.specs.Block.{headerSize, blockOf, sizeOf, lengthIn, addressIn, startIn, typeIn, modelIn, versionIn, nameIn, dateIn, imageIn}
+use Rattle.ubf.specs.Pack.{Fields, filled, blockBytes, bytesOf, textsFit, packOf}
+use Rattle.ubf.specs.Walk.{Standing, Ending, whole, fault, Walked, walkOf}
+use Rattle.ubf.specs.declared.block.Block.{Block}
+use Rattle.ubf.specs.declared.block.Found.the-variants.{Whole, Refused}
+
+-- Fields that pass the writer's tests for a kind: its number and address, an image that fits, a start behind the header that four
+-- bytes can spell, texts that fit.
+pub record Packable (k : Kind) (f : Fields) : Type 0 where
+  pub numbered : f .number ≡ numberOf k
+  pub based : f .address ≡ baseOf k
+  pub sized : fitsFile k (length (f .image)) ≡ true
+  pub behind-header : headerSize ≤ f .start
+  pub spelled-start : f .start < 2 ^ 32
+  pub texts : textsFit f ≡ true
+  pub image-bytes : Bytes (f .image)
+
+-- What reading a block gives back of its fields.
+pub record ReadAs (k : Kind) (f : Fields) (s : List ℕ) : Type 0 where
+  pub fields : blockOf s ≡ Whole (record { kind = k; length = length (f .image); start = f .start; check = xorWords (f .image) })
+  pub model : modelIn s ≡ filled 16 (f .model)
+  pub version : versionIn s ≡ filled 16 (f .version)
+  pub name : nameIn s ≡ filled 128 (f .name)
+  pub date : dateIn s ≡ filled 32 (f .date)
+  pub image : imageIn s ≡ f .image
+
+-- U1 (ReadWritten.antt). What was written is read again, whatever follows it: every field, the texts with their zeros, the image.
+abbrev pub ReadWritten : Type 0
+ReadWritten = (k : Kind) (f : Fields) (rest : List ℕ) → Packable k f → ReadAs k f (blockBytes f ++ rest)
+
+-- The fields of a block as the file has them.
+abbrev pub fieldsIn : List ℕ → Fields
+fieldsIn s = record {
+  number = typeIn s;
+  address = addressIn s;
+  start = startIn s;
+  model = modelIn s;
+  version = versionIn s;
+  name = nameIn s;
+  date = dateIn s;
+  image = imageIn s;
+}
+
+-- U1, the way back (WrittenRead.antt). What was read is written again as the same bytes, wherever the output has room.
+abbrev pub WrittenRead : Type 0
+WrittenRead =
+    (s : List ℕ) (b : Block) → Bytes s → blockOf s ≡ Whole b
+    → (output : List ℕ) → sizeOf b ≤ length output → packOf (fieldsIn s) output ≡ written (take (sizeOf b) s) output
+
+-- The blocks stand one behind the other from a place on, each read at its place, up to an end.
+abbrev pub LaidOut : List ℕ → ℕ → List Standing → ℕ → Type 0
+LaidOut file from [] end = from ≡ end
+LaidOut file from (b ∷ bs) end =
+    (b .place ≡ from) × (blockOf (drop from file) ≡ Whole (b .block)) × LaidOut file (from + sizeOf (b .block)) bs end
+
+-- A walk that ends with the file has laid out all of it; one that ends at a fault has laid out all before it, and there the block
+-- is refused with that number.
+abbrev pub EndsAt : List ℕ → List Standing → Ending → Type 0
+EndsAt file bs whole = LaidOut file 0 bs (length file)
+EndsAt file bs (fault number place) = LaidOut file 0 bs place × (blockOf (drop place file) ≡ Refused number)
+
+-- U2 (Laid.antt). The walk's blocks, laid end to end, are the file; or the first faulty block's number and place are given, and the
+-- blocks before it are right.
+abbrev pub WalkLaid : Type 0
+WalkLaid = (file : List ℕ) → EndsAt file (walkOf file .blocks) (walkOf file .ending)
