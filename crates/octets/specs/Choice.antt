@@ -1,6 +1,7 @@
 -- Choices by a test, which every layer's definitions are made of.
-use mathlib.Core.Bool.{Bool, true, false, cond, _&&_, false≢true}
-use mathlib.Core.Path.{_≡_, refl}
+use mathlib.Core.Bool.{Bool, true, false, cond, not, _&&_, false≢true}
+use mathlib.Core.Path.{_≡_, refl, sym, _∙_}
+use borrow.Author.Tests.{not-true, not-false}
 
 -- A test that holds takes the first case, one that fails the second.
 pub cond-yes : {A : Type 0} (t : Bool) (x y : A) → t ≡ true → cond t x y ≡ x
@@ -24,3 +25,10 @@ either-way P false h k = k refl
 pub both : (a b : Bool) → (a && b) ≡ true → (a ≡ true) × (b ≡ true)
 both true b h = (refl, h)
 both false b h = absurd (false≢true h)
+
+-- What a call answered, turned round by a test of its negation: the definition that it equals.
+pub passed : {x t : Bool} → x ≡ t → not x ≡ false → t ≡ true
+passed {x} e h = sym e ∙ not-false x h
+
+pub failed : {x t : Bool} → x ≡ t → not x ≡ true → t ≡ false
+failed {x} e h = sym e ∙ not-true x h

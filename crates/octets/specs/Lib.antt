@@ -3,3 +3,4 @@ pub mod Octets
 pub mod OctetsLaws
 pub mod Lists
 pub mod Choice
+pub mod PartLaws

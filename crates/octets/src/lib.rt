@@ -10,6 +10,7 @@ pub use numbers::four_at;
 pub use numbers::put_four;
 pub use numbers::put_two;
 pub use numbers::two_at;
+pub use parts::behind;
 pub use parts::part;
 pub use parts::text_length;
 pub use parts::zero_filled;

@@ -1,7 +1,7 @@
 // Parts of a slice, and texts that zeros fill up.
 ghost use mathlib.Core.Path.{_≡_};
 ghost use Prim.Native.Nat.{_≤_};
-ghost use lib.ListN.{length};
+ghost use lib.ListN.{length, drop};
 ghost use Rattle.octets.specs.Octets.{partOf, textLength, zeroFilled};
 use crate::runs::zeros;
 
@@ -17,6 +17,16 @@ pub fn part(s: &[u8], at: usize, n: usize) -> &[u8]
         return rest;
     }
     &rest[..n]
+}
+
+// All bytes behind the first n.
+pub fn behind(s: &[u8], n: usize) -> &[u8]
+    ensures { λ r. ⌜ now r ≡ drop n (now (s .entry)) ⌝ }
+{
+    if s.len() < n {
+        return &s[..0];
+    }
+    &s[n..]
 }
 
 // How many bytes stand before the first zero.

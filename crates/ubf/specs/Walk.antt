@@ -6,8 +6,6 @@ use Rattle.ubf.specs.Block.{blockOf, sizeOf}
 use Rattle.ubf.specs.declared.block.Block.{Block}
 use Rattle.ubf.specs.declared.block.Found.{Found}
 use Rattle.ubf.specs.declared.block.Found.the-variants.{Whole, Refused}
-use Rattle.ubf.specs.declared.walk.Counted.{Counted}
-use Rattle.ubf.specs.declared.walk.Counted.the-variants.{Blocks, Refused as CountRefused}
 use Rattle.ubf.specs.declared.walk.Nth.{Nth}
 use Rattle.ubf.specs.declared.walk.Nth.the-variants.{Found as NthFound, Past, Refused as NthRefused}
 
@@ -58,20 +56,20 @@ walkFrom place s = walkBy (suc (length s)) place s
 abbrev pub walkOf : List ℕ → Walked
 walkOf file = walkFrom 0 file
 
--- The n-th block of a walk, counted from 0, with so many blocks before it.
+-- The n-th block of a walk, counted from 0, with so many blocks before it: the block and its place; or how many blocks there are,
+-- where they are too few; or the first fault, and how many blocks stand before it.
 abbrev pub nthIn : ℕ → ℕ → List Standing → Ending → Nth
 nthIn n before [] whole = Past before
-nthIn n before [] (fault number place) = NthRefused number place
+nthIn n before [] (fault number place) = NthRefused number place before
 nthIn zero before (b ∷ bs) e = NthFound (b .block) (b .place)
 nthIn (suc n) before (b ∷ bs) e = nthIn n (suc before) bs e
 
-unfoldable pub nthOf : ℕ → Walked → Nth
-nthOf n w = nthIn n 0 (w .blocks) (w .ending)
+abbrev pub nthOf : ℕ → ℕ → Walked → Nth
+nthOf n before w = nthIn n before (w .blocks) (w .ending)
 
-abbrev pub countIn : ℕ → Ending → Counted
-countIn n whole = Blocks n
-countIn n (fault number place) = CountRefused number place n
+-- The n-th block from a place on, and of a file.
+unfoldable pub nthFrom : ℕ → ℕ → ℕ → List ℕ → Nth
+nthFrom n before place s = nthOf n before (walkFrom place s)
 
--- How many blocks a walk has, and where it failed if it did.
-unfoldable pub countOf : Walked → Counted
-countOf w = countIn (length (w .blocks)) (w .ending)
+abbrev pub blockAt : ℕ → List ℕ → Nth
+blockAt n file = nthFrom n 0 0 file

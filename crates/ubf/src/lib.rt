@@ -4,5 +4,12 @@ mod walk;
 
 pub use block::Block;
 pub use block::Found;
-pub use walk::Counted;
+pub use block::date;
+pub use block::file_name;
+pub use block::image;
+pub use block::model;
+pub use block::read;
+pub use block::size;
+pub use block::version;
 pub use walk::Nth;
+pub use walk::block_at;

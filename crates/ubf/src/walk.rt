@@ -1,20 +1,60 @@
-// The walk over the blocks of a file.
+// The walk over the blocks of a file: it calls itself on the part that remains, which falls by a block each time.
+ghost use mathlib.Core.Path.{_≡_};
+ghost use Prim.Native.Nat.{_+_, _^_, _≤_, _<_};
+ghost use lib.ListN.{length};
+ghost use Rattle.ubf.specs.Walk.{blockAt, nthFrom};
 use crate::block::Block;
+use crate::block::Found;
+use crate::block::read;
+use crate::block::size;
 
-// The n-th block and its place; or how many blocks there are, where that is too few; or the first faulty block's refusal number
-// and place.
+// The n-th block, counted from 0, and its place; or how many blocks the file has, where they are too few; or the first faulty
+// block's refusal number and place, and how many good blocks stand before it.
 pub enum Nth {
-    Found { block: Block, place: usize },
-    Past { count: usize },
-    Refused { number: u8, place: usize },
-}
-
-// How many blocks a file has; or the first faulty block's refusal number and place, and how many stand before it.
-pub enum Counted {
-    Blocks(usize),
+    Found {
+        block: Block,
+        place: usize,
+    },
+    Past {
+        count: usize,
+    },
     Refused {
         number: u8,
         place: usize,
-        before: usize,
+        count: usize,
     },
+}
+
+pub fn block_at(file: &[u8], n: usize) -> Nth
+    ensures { λ r. ⌜ r ≡ blockAt n (now (file .entry)) ⌝ }
+{
+    nth_from(file, 0, n, 0)
+}
+
+fn nth_from(rest: &[u8], place: usize, n: usize, passed: usize) -> Nth
+    requires { ⌜ (place + length (now rest) < 2 ^ 63) × (passed ≤ place) ⌝ }
+    ensures { λ r. ⌜ r ≡ nthFrom n passed place (now (rest .entry)) ⌝ }
+{
+    match read(rest) {
+        Found::Refused(number) => Nth::Refused {
+            number,
+            place,
+            count: passed,
+        },
+        Found::Whole(block) => {
+            if n == 0 {
+                return Nth::Found { block, place };
+            }
+            let taken = size(block);
+            if rest.len() <= taken {
+                return Nth::Past { count: passed + 1 };
+            }
+            nth_from(
+                octets::behind(rest, taken),
+                place + taken,
+                n - 1,
+                passed + 1,
+            )
+        }
+    }
 }

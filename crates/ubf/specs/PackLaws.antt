@@ -1,0 +1,208 @@
+-- The laws of writing: a block is its fields, each standing at its place.
+use Prim.Native.Nat.{ℕ, _+_, _-_, _≤_}
+use mathlib.Core.Bool.{true}
+use mathlib.Core.List.{List, [], _∷_, _++_, append-assoc, append-nil}
+use mathlib.Core.Path.{_≡_, refl, ap, _∙_}
+use native.Mathlib.Omega.{arith}
+use borrow.Author.Tests.{le-leb, leb-true}
+use lib.Dec.{leb}
+use lib.ListN.{length, take, replicate, length-append, length-replicate}
+use Rattle.octets.specs.Choice.{both}
+use Rattle.octets.specs.Octets.{spelled, partOf, allZero, zeroFilled, xorWords}
+use Rattle.octets.specs.OctetsLaws.{length-spelled}
+use Rattle.octets.specs.PartLaws.{Pieces, endToEnd, sizeOfAll, Sized, StandAt, _also_}
+use Rattle.octets.specs.PartLaws.{stand-of-laid, laid-of-stand, length-laid, filled-behind}
+use Rattle.ubf.specs.Block.{headerSize, markIn, mark, modelIn, versionIn, nameIn, dateIn, gapIn, filledIn}
+use Rattle.ubf.specs.Pack.{Fields, filled, headerOf, blockBytes, bytesOf, textFits, textsFit}
+
+-- ---- the texts
+
+-- The test of the texts is the test of each.
+pub record TextsFit (f : Fields) : Type 0 where
+  pub model : textFits 16 (f .model) ≡ true
+  pub version : textFits 16 (f .version) ≡ true
+  pub name : textFits 128 (f .name) ≡ true
+  pub date : textFits 32 (f .date) ≡ true
+
+-- Where the test holds, each text fits.
+pub texts-of-test : (f : Fields) → textsFit f ≡ true → TextsFit f
+unfolding textsFit
+texts-of-test f h =
+    let first = both (textFits 16 (f .model)) _ h in
+    let second = both (textFits 16 (f .version)) _ (first .1) in
+    let third = both (textFits 128 (f .name)) _ (second .1) in
+    record { model = first .0; version = second .0; name = third .0; date = third .1 }
+
+-- Where each text fits, the test holds.
+pub test-of-texts : (f : Fields) → TextsFit f → textsFit f ≡ true
+unfolding textsFit
+test-of-texts f t = rw (t .model, t .version, t .name) (t .date)
+
+-- A text that fits is no longer than its field, and filled with zeros.
+pub fits-field : (n : ℕ) (text : List ℕ) → textFits n text ≡ true → (length text ≤ n) × (zeroFilled text ≡ true)
+unfolding textFits
+fits-field n text h = let each = both (leb (length text) n) (zeroFilled text) h in (leb-true (length text) n (each .0), each .1)
+
+-- A field is as long as it should be.
+pub length-filled : (n : ℕ) (text : List ℕ) → textFits n text ≡ true → length (filled n text) ≡ n
+unfolding filled
+length-filled n text h = let short = fits-field n text h .0 in simp (length-append, length-replicate) (omega arith)
+
+-- A field is filled with zeros.
+pub zero-filled : (n : ℕ) (text : List ℕ) → textFits n text ≡ true → zeroFilled (filled n text) ≡ true
+unfolding filled
+zero-filled n text h = filled-behind text (n - length text) ∙ fits-field n text h .1
+
+-- A text as long as its field is the field.
+pub filled-full : (n : ℕ) (text : List ℕ) → length text ≡ n → text ≡ filled n text
+unfolding filled
+filled-full n text h = let none : n - length text ≡ 0 = omega arith in rw (none, append-nil)
+
+-- A field that is filled with zeros is a text that fits it.
+pub field-fits : (n : ℕ) (text : List ℕ) → length text ≡ n → zeroFilled text ≡ true → textFits n text ≡ true
+unfolding textFits
+field-fits n text h z = rw (le-leb (length text) n (omega arith)) z
+
+-- The test of the zeros of a block is the test of each text and of the gap.
+pub record ZerosIn (s : List ℕ) : Type 0 where
+  pub model : zeroFilled (modelIn s) ≡ true
+  pub version : zeroFilled (versionIn s) ≡ true
+  pub name : zeroFilled (nameIn s) ≡ true
+  pub date : zeroFilled (dateIn s) ≡ true
+  pub gap : allZero (gapIn s) ≡ true
+
+-- Where the test holds, each part has its zeros.
+pub zeros-of-test : (s : List ℕ) → filledIn s ≡ true → ZerosIn s
+unfolding filledIn
+zeros-of-test s h =
+    let first = both (zeroFilled (modelIn s)) _ h in
+    let second = both (zeroFilled (versionIn s)) _ (first .1) in
+    let third = both (zeroFilled (nameIn s)) _ (second .1) in
+    let fourth = both (zeroFilled (dateIn s)) _ (third .1) in
+    record { model = first .0; version = second .0; name = third .0; date = fourth .0; gap = fourth .1 }
+
+-- Where each part has its zeros, the test holds.
+pub test-of-zeros : (s : List ℕ) → ZerosIn s → filledIn s ≡ true
+unfolding filledIn
+test-of-zeros s z = rw (z .model, z .version, z .name, z .date) (z .gap)
+
+-- ---- the fields in their places
+
+-- The fields of a block stand at their places in some bytes.
+pub record FieldsStand (f : Fields) (s : List ℕ) : Type 0 where
+  pub mark-there : markIn s ≡ mark
+  pub length-there : partOf s 0x02 4 ≡ spelled 4 (length (f .image))
+  pub address-there : partOf s 0x06 4 ≡ spelled 4 (f .address)
+  pub start-there : partOf s 0x0A 4 ≡ spelled 4 (f .start)
+  pub type-there : partOf s 0x0E 2 ≡ spelled 2 (f .number)
+  pub model-there : modelIn s ≡ filled 16 (f .model)
+  pub version-there : versionIn s ≡ filled 16 (f .version)
+  pub name-there : nameIn s ≡ filled 128 (f .name)
+  pub date-there : dateIn s ≡ filled 32 (f .date)
+  pub gap-there : partOf s headerSize (f .start - headerSize) ≡ replicate (f .start - headerSize) 0
+  pub image-there : partOf s (f .start) (length (f .image)) ≡ f .image
+  pub check-there : partOf s (f .start + length (f .image)) 4 ≡ spelled 4 (xorWords (f .image))
+
+-- The pieces of a block, in their order.
+piecesOf : Fields → Pieces
+piecesOf f =
+    (2, mark)
+    ∷ (4, spelled 4 (length (f .image)))
+    ∷ (4, spelled 4 (f .address))
+    ∷ (4, spelled 4 (f .start))
+    ∷ (2, spelled 2 (f .number))
+    ∷ (16, filled 16 (f .model))
+    ∷ (16, filled 16 (f .version))
+    ∷ (128, filled 128 (f .name))
+    ∷ (32, filled 32 (f .date))
+    ∷ (f .start - headerSize, replicate (f .start - headerSize) 0)
+    ∷ (length (f .image), f .image)
+    ∷ (4, spelled 4 (xorWords (f .image)))
+    ∷ []
+
+-- A block is its pieces end to end.
+block-laid : (f : Fields) → blockBytes f ≡ endToEnd (piecesOf f)
+unfolding blockBytes headerOf piecesOf
+block-laid f = simp (append-assoc, append-nil)
+
+-- Together they are as long as the block is said to be.
+pieces-together : (f : Fields) → headerSize ≤ f .start → sizeOfAll (piecesOf f) ≡ bytesOf f
+unfolding piecesOf
+pieces-together f h = omega arith
+
+-- Each piece is as long as it should be.
+pieces-sized : (f : Fields) → TextsFit f → Sized (piecesOf f)
+unfolding piecesOf
+pieces-sized f t =
+    refl
+    also length-spelled 4 (length (f .image))
+    also length-spelled 4 (f .address)
+    also length-spelled 4 (f .start)
+    also length-spelled 2 (f .number)
+    also length-filled 16 (f .model) (t .model)
+    also length-filled 16 (f .version) (t .version)
+    also length-filled 128 (f .name) (t .name)
+    also length-filled 32 (f .date) (t .date)
+    also length-replicate (f .start - headerSize) 0
+    also refl
+    also length-spelled 4 (xorWords (f .image))
+    also tt
+
+-- A block is as long as it is said to be.
+pub length-block : (f : Fields) → headerSize ≤ f .start → TextsFit f → length (blockBytes f) ≡ bytesOf f
+length-block f h t = ap length (block-laid f) ∙ length-laid (piecesOf f) (pieces-sized f t) ∙ pieces-together f h
+
+-- Where the pieces stand end to end, the fields stand at their places.
+fields-of-pieces : (f : Fields) (s : List ℕ) → headerSize ≤ f .start → StandAt s 0 (piecesOf f) → FieldsStand f s
+unfolding piecesOf
+fields-of-pieces f s h p =
+    let behind-gap : headerSize + (f .start - headerSize) ≡ f .start = omega arith in
+    let (marks, (sizes, (bases, (begins, (types, (models, (versions, (names, (dates, (gaps, (images, (checks, end)))))))))))) = p in
+    record {
+      mark-there = marks;
+      length-there = sizes;
+      address-there = bases;
+      start-there = begins;
+      type-there = types;
+      model-there = models;
+      version-there = versions;
+      name-there = names;
+      date-there = dates;
+      gap-there = gaps;
+      image-there = rw behind-gap at images;
+      check-there = rw behind-gap at checks;
+    }
+
+-- Where the fields stand at their places, the pieces stand end to end.
+pieces-of-fields : (f : Fields) (s : List ℕ) → headerSize ≤ f .start → FieldsStand f s → StandAt s 0 (piecesOf f)
+unfolding piecesOf
+pieces-of-fields f s h t =
+    let behind-gap : headerSize + (f .start - headerSize) ≡ f .start = omega arith in
+    t .mark-there
+    also t .length-there
+    also t .address-there
+    also t .start-there
+    also t .type-there
+    also t .model-there
+    also t .version-there
+    also t .name-there
+    also t .date-there
+    also t .gap-there
+    also rw behind-gap (t .image-there)
+    also rw behind-gap (t .check-there)
+    also tt
+
+-- In bytes that begin with a block its fields stand at their places.
+pub fields-of-block : (f : Fields) (rest : List ℕ) → headerSize ≤ f .start → TextsFit f → FieldsStand f (blockBytes f ++ rest)
+fields-of-block f rest h t =
+    let s : List ℕ = blockBytes f ++ rest in
+    let begins : s ≡ endToEnd (piecesOf f) ++ rest = ap (λ (l : List ℕ). l ++ rest) (block-laid f) in
+    fields-of-pieces f s h (stand-of-laid (piecesOf f) s rest 0 (pieces-sized f t) begins)
+
+-- Where the fields of a block stand at their places, the bytes begin with the block.
+pub block-of-fields : (f : Fields) (s : List ℕ) → headerSize ≤ f .start → FieldsStand f s → blockBytes f ≡ take (bytesOf f) s
+unfolding partOf
+block-of-fields f s h t =
+    block-laid f
+    ∙ laid-of-stand (piecesOf f) s 0 (pieces-of-fields f s h t)
+    ∙ ap (λ (n : ℕ). take n s) (pieces-together f h)

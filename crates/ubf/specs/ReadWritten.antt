@@ -1,0 +1,105 @@
+-- What was written is read again.
+use Prim.Native.Nat.{ℕ, _+_, _-_, _^_, _≤_, _<_}
+use mathlib.Core.Bool.{true}
+use mathlib.Core.List.{List, _++_}
+use mathlib.Core.Path.{_≡_, refl, _∙_}
+use native.Mathlib.Omega.{arith}
+use borrow.Author.Tests.{leb-true}
+use lib.Dec.{leb}
+use lib.ListN.{length, length-append}
+use Rattle.octets.specs.Choice.{both}
+use Rattle.octets.specs.Octets.{xorWords}
+use Rattle.octets.specs.PartLaws.{number-of-part, zeros-zero, xor-words-lt}
+use Rattle.kinds.specs.Kinds.{kindOf, numberOf, baseOf, fitsFile, longestImage}
+use Rattle.kinds.specs.declared.Kind.{Kind}
+use Rattle.kinds.specs.declared.Kind.the-variants.{Navigation, Upgrade, Parameters}
+use Rattle.kinds.specs.declared.Known.the-variants.{Is}
+use Rattle.ubf.specs.Block.{headerSize, lengthIn, addressIn, startIn, typeIn, imageIn, checkIn}
+use Rattle.ubf.specs.BlockLaws.{Good, block-of-good}
+use Rattle.ubf.specs.Pack.{Fields, blockBytes, bytesOf}
+use Rattle.ubf.specs.PackLaws.{texts-of-test, zero-filled, test-of-zeros, FieldsStand, length-block, fields-of-block}
+use Rattle.ubf.specs.Promises.{Packable, ReadWritten}
+
+-- The number of a kind is read as the kind.
+kind-of-number : (k : Kind) → kindOf (numberOf k) ≡ Is k
+unfolding kindOf
+kind-of-number Navigation = refl
+kind-of-number Upgrade = refl
+kind-of-number Parameters = refl
+
+-- The number of a kind fits two bytes, its address four.
+kind-spelled : (k : Kind) → (numberOf k < 256 ^ 2) × (baseOf k < 256 ^ 4)
+kind-spelled Navigation = omega arith
+kind-spelled Upgrade = omega arith
+kind-spelled Parameters = omega arith
+
+-- An image that fits a file has no more than the longest image's bytes.
+image-short : (k : Kind) (n : ℕ) → fitsFile k n ≡ true → n ≤ longestImage
+unfolding fitsFile
+image-short k n h = leb-true n longestImage (both (leb n longestImage) _ (both (leb 1 n) _ h .1) .0)
+
+-- The numbers of a block, where its fields stand in some bytes.
+record NumbersIn (k : Kind) (f : Fields) (s : List ℕ) : Type 0 where
+  long : lengthIn s ≡ length (f .image)
+  base : addressIn s ≡ baseOf k
+  begins : startIn s ≡ f .start
+  type : typeIn s ≡ numberOf k
+  image : imageIn s ≡ f .image
+  check : checkIn s ≡ xorWords (f .image)
+
+-- Each number that stands there is read.
+numbers-in : (k : Kind) (f : Fields) (s : List ℕ) → Packable k f → FieldsStand f s → NumbersIn k f s
+numbers-in k f s p t =
+    let short = image-short k (length (f .image)) (p .sized) in
+    let small = kind-spelled k in
+    let long : lengthIn s ≡ length (f .image) = number-of-part s 0x02 4 (length (f .image)) (omega arith) (t .length-there) in
+    let begins : startIn s ≡ f .start = number-of-part s 0x0A 4 (f .start) (p .spelled-start) (t .start-there) in
+    let word = xor-words-lt 0 (f .image) (omega arith) (p .image-bytes) in
+    record {
+      long = long;
+      base = number-of-part s 0x06 4 (f .address) (rw (p .based) (small .1)) (t .address-there) ∙ p .based;
+      begins = begins;
+      type = number-of-part s 0x0E 2 (f .number) (rw (p .numbered) (small .0)) (t .type-there) ∙ p .numbered;
+      image = rw (long, begins) (t .image-there);
+      check = rw (long, begins) (number-of-part s (f .start + length (f .image)) 4 (xorWords (f .image)) word (t .check-there));
+    }
+
+-- The facts that make it a block hold.
+good-written : (k : Kind) (f : Fields) (s : List ℕ) → Packable k f → FieldsStand f s → NumbersIn k f s → bytesOf f ≤ length s
+    → Good k s
+good-written k f s p t n h =
+    let fit = texts-of-test f (p .texts) in
+    record {
+      header = omega arith;
+      marked = t .mark-there;
+      known = rw (n .type) (kind-of-number k);
+      based = n .base;
+      sized = rw (n .long) (p .sized);
+      behind-header = rw (n .begins) (p .behind-header);
+      there = rw (n .begins, n .long) h;
+      filled = test-of-zeros s (record {
+        model = rw (t .model-there) (zero-filled 16 (f .model) (fit .model));
+        version = rw (t .version-there) (zero-filled 16 (f .version) (fit .version));
+        name = rw (t .name-there) (zero-filled 128 (f .name) (fit .name));
+        date = rw (t .date-there) (zero-filled 32 (f .date) (fit .date));
+        gap = rw (n .begins, t .gap-there) (zeros-zero (f .start - headerSize));
+      });
+      checked = rw (n .image) (n .check);
+    }
+
+-- What was written is read again, whatever follows it.
+pub read-written : ReadWritten
+read-written k f rest p =
+    let fit = texts-of-test f (p .texts) in
+    let s : List ℕ = blockBytes f ++ rest in
+    let t = fields-of-block f rest (p .behind-header) fit in
+    let n = numbers-in k f s p t in
+    let room : bytesOf f ≤ length s = rw (length-append, length-block f (p .behind-header) fit) (omega arith) in
+    record {
+      fields = block-of-good k s (good-written k f s p t n room) ∙ rw (n .check, n .long, n .begins);
+      model = t .model-there;
+      version = t .version-there;
+      name = t .name-there;
+      date = t .date-there;
+      image = n .image;
+    }

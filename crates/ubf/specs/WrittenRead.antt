@@ -1,0 +1,86 @@
+-- What was read is written again as the same bytes.
+use Prim.Native.Nat.{ℕ, _+_, _-_, _≤_}
+use mathlib.Core.Bool.{true}
+use mathlib.Core.List.{List}
+use mathlib.Core.Path.{_≡_, ap, _∙_}
+use native.Mathlib.Omega.{arith}
+use borrow.Author.Tests.{eq-eqb, le-leb}
+use lib.ListN.{length, take, replicate}
+use Rattle.octets.specs.Octets.{Bytes, partOf}
+use Rattle.octets.specs.PartLaws.{length-part, part-of-number, zeros-of-zero}
+use Rattle.kinds.specs.Kinds.{baseOf}
+use Rattle.kinds.specs.declared.Kind.{Kind}
+use Rattle.refusals.specs.Written.{written}
+use Rattle.ubf.specs.Block.{headerSize, lengthIn, addressIn, startIn, modelIn, versionIn, nameIn, dateIn, gapIn, imageIn}
+use Rattle.ubf.specs.BlockLaws.{Good, good-of-block}
+use Rattle.ubf.specs.Pack.{textsFit, blockBytes, packOf}
+use Rattle.ubf.specs.PackLaws.{test-of-texts, filled-full, field-fits, zeros-of-test, FieldsStand, block-of-fields}
+use Rattle.ubf.specs.Promises.{fieldsIn, WrittenRead}
+
+module _ (k : Kind) (s : List ℕ) (g : Good k s) where
+  -- The image is as long as the header says.
+  image-long : length (imageIn s) ≡ lengthIn s
+  image-long = length-part s (startIn s) (lengthIn s) (omega arith)
+
+  -- A text within the header is as long as its field.
+  text-long : (at n : ℕ) → at + n ≤ headerSize → length (partOf s at n) ≡ n
+  text-long at n h = length-part s at n (omega arith)
+
+  -- The gap is zeros.
+  gap-zeros : gapIn s ≡ replicate (startIn s - headerSize) 0
+  gap-zeros =
+      let long = length-part s headerSize (startIn s - headerSize) (omega arith) in
+      zeros-of-zero (gapIn s) (zeros-of-test s (g .filled) .gap) ∙ ap (λ (n : ℕ). replicate n 0) long
+
+  -- The texts of a block that was read fit their fields.
+  texts-fit : textsFit (fieldsIn s) ≡ true
+  texts-fit =
+      let z = zeros-of-test s (g .filled) in
+      test-of-texts (fieldsIn s) (record {
+        model = field-fits 16 (modelIn s) (text-long 0x10 16 (omega arith)) (z .model);
+        version = field-fits 16 (versionIn s) (text-long 0x20 16 (omega arith)) (z .version);
+        name = field-fits 128 (nameIn s) (text-long 0x30 128 (omega arith)) (z .name);
+        date = field-fits 32 (dateIn s) (text-long 0xB0 32 (omega arith)) (z .date);
+      })
+
+  -- Each field that was read stands where it was read.
+  fields-stand : Bytes s → FieldsStand (fieldsIn s) s
+  fields-stand b = record {
+    mark-there = g .marked;
+    length-there = rw image-long (part-of-number s 0x02 4 b (omega arith));
+    address-there = part-of-number s 0x06 4 b (omega arith);
+    start-there = part-of-number s 0x0A 4 b (omega arith);
+    type-there = part-of-number s 0x0E 2 b (omega arith);
+    model-there = filled-full 16 (modelIn s) (text-long 0x10 16 (omega arith));
+    version-there = filled-full 16 (versionIn s) (text-long 0x20 16 (omega arith));
+    name-there = filled-full 128 (nameIn s) (text-long 0x30 128 (omega arith));
+    date-there = filled-full 32 (dateIn s) (text-long 0xB0 32 (omega arith));
+    gap-there = gap-zeros;
+    image-there = rw image-long;
+    check-there = rw (image-long, ← g .checked) (part-of-number s (startIn s + lengthIn s) 4 b (g .there));
+  }
+
+  -- Written again they are the bytes that they were read from.
+  block-again : Bytes s → blockBytes (fieldsIn s) ≡ take (startIn s + lengthIn s + 4) s
+  block-again b = rw image-long at (block-of-fields (fieldsIn s) s (g .behind-header) (fields-stand b))
+
+  -- The writer passes the fields that were read, and writes those bytes.
+  packs : Bytes s → (output : List ℕ) → startIn s + lengthIn s + 4 ≤ length output
+      → packOf (fieldsIn s) output ≡ written (take (startIn s + lengthIn s + 4) s) output
+  unfolding packOf
+  packs b output room = rw (
+    image-long,
+    g .known,
+    eq-eqb (addressIn s) (baseOf k) (g .based),
+    g .sized,
+    le-leb headerSize (startIn s) (g .behind-header),
+    texts-fit,
+    le-leb (startIn s + lengthIn s + 4) (length output) room,
+    block-again b,
+  )
+
+-- What was read is written again as the same bytes, wherever the output has room.
+pub written-read : WrittenRead
+written-read s b bytes h output room =
+    let r = good-of-block s b h in
+    rw (r .fields) (packs (r .kind) s (r .good) bytes output (rw (r .fields) at room))
