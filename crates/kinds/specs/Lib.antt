@@ -1,2 +1,3 @@
--- What the contracts of this crate cite.
+-- What the contracts of this crate cite, and its laws.
 pub mod Kinds
+pub mod KindsLaws

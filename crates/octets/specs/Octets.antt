@@ -84,3 +84,17 @@ Front n out = (n ≤ length out) × (n ≡ length (take n out))
 -- The buffer with its first bytes written over and the rest as lent.
 unfoldable pub over : List ℕ → List ℕ → List ℕ
 over front out = front ++ drop (length front) out
+
+-- Pieces, each with its size.
+abbrev pub Pieces : Type 0
+Pieces = List (ℕ × List ℕ)
+
+-- The pieces end to end.
+abbrev pub endToEnd : Pieces → List ℕ
+endToEnd [] = []
+endToEnd (p ∷ ps) = p .1 ++ endToEnd ps
+
+-- A buffer with the pieces laid into it from a place on, each where the one before it ends.
+abbrev pub layAll : List ℕ → ℕ → Pieces → List ℕ
+layAll out at [] = out
+layAll out at (p ∷ ps) = layAll (laid out at (p .1)) (at + p .0) ps

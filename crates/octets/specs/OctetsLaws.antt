@@ -10,8 +10,8 @@ use native.Mathlib.Omega.{arith}
 use borrow.Author.Tests.{eq-eqb, eqb-true, ne-eqb}
 use lib.Bits.{bitXor}
 use lib.Dec.{eqb, lit<}
-use lib.ListN.{length, getD, take, drop, set, length-append, length-take, length-drop, length-set, drop-of-length-le}
-use lib.Seq.{take-suc, drop-cons, drop-length, take-length, take-all, take-nil, drop-nil, getD-drop, set-append-seam, append-snoc, paste, sets, take-at, drop-append-add, drop-drop}
+use lib.ListN.{length, getD, take, drop, set, length-append, length-take, length-drop, length-set, drop-of-length-le, take-append-drop}
+use lib.Seq.{take-suc, drop-cons, drop-length, take-length, take-all, take-nil, drop-nil, getD-drop, set-append-seam, append-snoc, paste, sets, take-at, drop-append-add, drop-drop, length-take-le}
 use Rattle.octets.specs.Choice.{both}
 use Rattle.octets.specs.Octets.{textLength, xorWordsFrom, Bytes, little, spelled, numberAt, xorFrom, xorOf, allZero, sameBytes, laid, over}
 
@@ -241,3 +241,24 @@ words-end a s i h = few (drop (i * 4) s) (rw length-drop (omega arith))
     few (b ∷ c ∷ []) h = refl
     few (b ∷ c ∷ d ∷ []) h = refl
     few (b ∷ c ∷ d ∷ e ∷ l) h = absurd (omega arith)
+
+-- ---- runs laid one behind the other
+
+-- A buffer's own front, written over it, changes nothing.
+over-take : (n : ℕ) (out : List ℕ) → n ≤ length out → over (take n out) out ≡ out
+unfolding over
+over-take n out h = rw (length-take-le n out h) (take-append-drop n out)
+
+-- A run that fits, laid anywhere, is a front written over the buffer.
+laid-over : (d : List ℕ) (at : ℕ) (s : List ℕ) → at + length s ≤ length d → laid d at s ≡ over (take at d ++ s) d
+laid-over d at s h =
+    ap (λ (l : List ℕ). laid l at s) (sym (over-take at d (omega arith)))
+    ∙ over-laid (take at d) d s at (length-take-le at d (omega arith)) h
+
+-- A run laid behind another is both laid as one.
+pub laid-next : (d : List ℕ) (at : ℕ) (s t : List ℕ) → at + length s + length t ≤ length d
+    → laid (laid d at s) (at + length s) t ≡ laid d at (s ++ t)
+laid-next d at s t h =
+    let front : length (take at d ++ s) ≡ at + length s = length-append (take at d) s ∙ rw (length-take-le at d (omega arith)) in
+    rw (laid-over d at s (omega arith), over-laid (take at d ++ s) d t (at + length s) front h, append-assoc)
+    (sym (laid-over d at (s ++ t) (rw length-append (omega arith))))

@@ -1,7 +1,7 @@
 -- The laws of parts: pieces laid end to end and found again, the number that a part spells, runs of zeros, the xor of words.
 use Prim.Native.Nat.{ℕ, zero, suc, _+_, _^_, _≤_, _<_}
 use mathlib.Core.Bool.{Bool, true, _&&_}
-use mathlib.Core.List.{List, [], _∷_, _++_, append-assoc}
+use mathlib.Core.List.{List, [], _∷_, _++_, append-assoc, append-nil}
 use mathlib.Core.Path.{_≡_, refl, sym, ap, ap₂, _∙_}
 use native.Mathlib.Omega.{arith}
 use borrow.Author.Tests.{eqb-true}
@@ -11,8 +11,8 @@ use lib.ListN.{length, take, drop, replicate, length-append, length-drop}
 use lib.Seq.{take-at, drop-at, drop-drop, take-add, length-take-le}
 use Rattle.octets.specs.Choice.{both, by-test}
 use Rattle.octets.specs.Lists.{bytes-take, bytes-drop}
-use Rattle.octets.specs.Octets.{Bytes, little, spelled, numberAt, partOf, allZero, textLength, zeroFilled, xorWordsFrom}
-use Rattle.octets.specs.OctetsLaws.{little-spelled, spelled-little}
+use Rattle.octets.specs.Octets.{Pieces, endToEnd, layAll, over, Bytes, little, spelled, numberAt, partOf, allZero, textLength, zeroFilled, xorWordsFrom}
+use Rattle.octets.specs.OctetsLaws.{little-spelled, spelled-little, over-laid}
 
 -- ---- a part
 
@@ -32,15 +32,6 @@ unfolding partOf
 part-add s at n m = rw (← drop-drop n at s) (sym (take-add n m (drop at s)))
 
 -- ---- pieces laid end to end
-
--- Pieces, each with its size.
-abbrev pub Pieces : Type 0
-Pieces = List (ℕ × List ℕ)
-
--- The pieces end to end.
-abbrev pub endToEnd : Pieces → List ℕ
-endToEnd [] = []
-endToEnd (p ∷ ps) = p .1 ++ endToEnd ps
 
 -- Their sizes together.
 abbrev pub sizeOfAll : Pieces → ℕ
@@ -83,6 +74,16 @@ laid-of-stand (p ∷ ps) s at h =
 pub length-laid : (ps : Pieces) → Sized ps → length (endToEnd ps) ≡ sizeOfAll ps
 length-laid [] h = refl
 length-laid (p ∷ ps) h = rw (length-append, length-laid ps (h .1), h .0)
+
+-- Pieces laid one by one behind a front are the front and the pieces, written over the buffer.
+pub lay-all : (ps : Pieces) (front out : List ℕ) (at : ℕ) → length front ≡ at → Sized ps → at + sizeOfAll ps ≤ length out
+    → layAll (over front out) at ps ≡ over (front ++ endToEnd ps) out
+lay-all [] front out at e sizes h = ap (λ (l : List ℕ). over l out) (sym (append-nil front))
+lay-all (p ∷ ps) front out at e sizes h =
+    let size : length (front ++ p .1) ≡ at + p .0 = length-append front (p .1) ∙ rw (e, sizes .0) in
+    rw (over-laid front out (p .1) at e (omega (arith, sizes .0)))
+    (lay-all ps (front ++ p .1) out (at + p .0) size (sizes .1) (omega arith))
+    ∙ ap (λ (l : List ℕ). over l out) (append-assoc front (p .1) (endToEnd ps))
 
 -- ---- the number that a part spells
 

@@ -1,16 +1,18 @@
 -- Writing one block.
-use Prim.Native.Nat.{ℕ, _+_, _-_}
-use mathlib.Core.Bool.{Bool, false, cond, _&&_}
+use Prim.Native.Nat.{ℕ, _+_, _-_, _≤_}
+use mathlib.Core.Bool.{Bool, true, false, cond, _&&_}
 use mathlib.Core.List.{List, [], _∷_, _++_}
+use mathlib.Core.Path.{_≡_}
 use lib.Dec.{eqb, leb}
 use lib.ListN.{length, replicate}
-use Rattle.octets.specs.Octets.{spelled, zeroFilled, xorWords}
-use Rattle.kinds.specs.Kinds.{kindOf, baseOf, fitsFile}
+use Rattle.octets.specs.Octets.{spelled, zeroFilled, xorWords, Pieces}
+use Rattle.kinds.specs.Kinds.{kindOf, baseOf, fitsFile, longestImage}
 use Rattle.kinds.specs.declared.Known.{Known}
 use Rattle.kinds.specs.declared.Known.the-variants.{Is, Unknown}
 use Rattle.refusals.specs.Refusals.{noRoom, wrongType, wrongStart, wrongImageLength, notZeroFilled}
 use Rattle.refusals.specs.Written.{Out, refused, written}
 use Rattle.ubf.specs.Block.{headerSize, mark}
+use Rattle.ubf.specs.declared.pack.Numbers.{Numbers}
 
 -- What a block is made of: type, address and start of the image, the texts, the image.
 pub record Fields : Type 0 where
@@ -22,6 +24,18 @@ pub record Fields : Type 0 where
   pub name : List ℕ
   pub date : List ℕ
   pub image : List ℕ
+
+abbrev pub gathered : Numbers → List ℕ → List ℕ → List ℕ → List ℕ → List ℕ → Fields
+gathered numbers model version name date image = record {
+  number = numbers .number;
+  address = numbers .address;
+  start = numbers .start;
+  model = model;
+  version = version;
+  name = name;
+  date = date;
+  image = image;
+}
 
 -- A text in its field, the rest of it zeros.
 unfoldable pub filled : ℕ → List ℕ → List ℕ
@@ -40,6 +54,28 @@ headerOf f =
     ++ (filled 128 (f .name)
     ++ filled 32 (f .date))))))))
 
+-- The same as pieces with their sizes, which stand from the block's front on.
+abbrev pub headerPieces : Fields → Pieces
+headerPieces f =
+    (2, mark)
+    ∷ (4, spelled 4 (length (f .image)))
+    ∷ (4, spelled 4 (f .address))
+    ∷ (4, spelled 4 (f .start))
+    ∷ (2, spelled 2 (f .number))
+    ∷ (16, filled 16 (f .model))
+    ∷ (16, filled 16 (f .version))
+    ∷ (128, filled 128 (f .name))
+    ∷ (32, filled 32 (f .date))
+    ∷ []
+
+-- What follows the header: zeros up to the start, the image, its check.
+abbrev pub bodyPieces : Fields → Pieces
+bodyPieces f =
+    (f .start - headerSize, replicate (f .start - headerSize) 0)
+    ∷ (length (f .image), f .image)
+    ∷ (4, spelled 4 (xorWords (f .image)))
+    ∷ []
+
 -- The block: header, zeros up to the start, image, check.
 unfoldable pub blockBytes : Fields → List ℕ
 blockBytes f = headerOf f ++ (replicate (f .start - headerSize) 0 ++ (f .image ++ spelled 4 (xorWords (f .image))))
@@ -52,8 +88,12 @@ bytesOf f = f .start + length (f .image) + 4
 unfoldable pub textFits : ℕ → List ℕ → Bool
 textFits n text = leb (length text) n && zeroFilled text
 
-unfoldable pub textsFit : Fields → Bool
-textsFit f = textFits 16 (f .model) && (textFits 16 (f .version) && (textFits 128 (f .name) && textFits 32 (f .date)))
+unfoldable pub textsFit : List ℕ → List ℕ → List ℕ → List ℕ → Bool
+textsFit model version name date = textFits 16 model && (textFits 16 version && (textFits 128 name && textFits 32 date))
+
+-- The texts of some fields.
+abbrev pub textsIn : Fields → Bool
+textsIn f = textsFit (f .model) (f .version) (f .name) (f .date)
 
 abbrev pub pairs : Known → ℕ → Bool
 pairs (Is k) address = eqb address (baseOf k)
@@ -72,6 +112,12 @@ packOf f output =
     unlessOut (pairs (kindOf (f .number)) (f .address)) wrongType output
     (unlessOut (fits (kindOf (f .number)) (length (f .image))) wrongImageLength output
     (unlessOut (leb headerSize (f .start)) wrongStart output
-    (unlessOut (textsFit f) notZeroFilled output
+    (unlessOut (textsIn f) notZeroFilled output
     (unlessOut (leb (bytesOf f) (length output)) noRoom output
     (written (blockBytes f) output)))))
+
+-- What laying a header asks: texts that fit, a length that four bytes spell, and room.
+pub record HeaderRoom (f : Fields) (output : List ℕ) : Type 0 where
+  pub texts : textsIn f ≡ true
+  pub spelled-length : length (f .image) ≤ longestImage
+  pub room : headerSize ≤ length output

@@ -1,19 +1,23 @@
 -- The laws of writing: a block is its fields, each standing at its place.
 use Prim.Native.Nat.{ℕ, _+_, _-_, _≤_}
-use mathlib.Core.Bool.{true}
+use mathlib.Core.Bool.{true, false≢true}
 use mathlib.Core.List.{List, [], _∷_, _++_, append-assoc, append-nil}
-use mathlib.Core.Path.{_≡_, refl, ap, _∙_}
+use mathlib.Core.Path.{_≡_, refl, sym, ap, _∙_}
 use native.Mathlib.Omega.{arith}
 use borrow.Author.Tests.{le-leb, leb-true}
 use lib.Dec.{leb}
 use lib.ListN.{length, take, replicate, length-append, length-replicate}
 use Rattle.octets.specs.Choice.{both}
-use Rattle.octets.specs.Octets.{spelled, partOf, allZero, zeroFilled, xorWords}
-use Rattle.octets.specs.OctetsLaws.{length-spelled}
-use Rattle.octets.specs.PartLaws.{Pieces, endToEnd, sizeOfAll, Sized, StandAt, _also_}
-use Rattle.octets.specs.PartLaws.{stand-of-laid, laid-of-stand, length-laid, filled-behind}
+use Rattle.octets.specs.Octets.{spelled, partOf, allZero, zeroFilled, xorWords, laid, over, Pieces, endToEnd, layAll}
+use Rattle.octets.specs.OctetsLaws.{length-spelled, over-nil}
+use Rattle.octets.specs.PartLaws.{sizeOfAll, Sized, StandAt, _also_}
+use Rattle.octets.specs.PartLaws.{lay-all, stand-of-laid, laid-of-stand, length-laid, filled-behind}
+use Rattle.kinds.specs.Kinds.{longestImage}
+use Rattle.kinds.specs.KindsLaws.{image-short}
+use Rattle.kinds.specs.declared.Known.{Known}
+use Rattle.kinds.specs.declared.Known.the-variants.{Is, Unknown}
 use Rattle.ubf.specs.Block.{headerSize, markIn, mark, modelIn, versionIn, nameIn, dateIn, gapIn, filledIn}
-use Rattle.ubf.specs.Pack.{Fields, filled, headerOf, blockBytes, bytesOf, textFits, textsFit}
+use Rattle.ubf.specs.Pack.{headerPieces, bodyPieces, Fields, filled, headerOf, blockBytes, bytesOf, textFits, textsFit, textsIn, fits}
 
 -- ---- the texts
 
@@ -25,7 +29,7 @@ pub record TextsFit (f : Fields) : Type 0 where
   pub date : textFits 32 (f .date) ≡ true
 
 -- Where the test holds, each text fits.
-pub texts-of-test : (f : Fields) → textsFit f ≡ true → TextsFit f
+pub texts-of-test : (f : Fields) → textsIn f ≡ true → TextsFit f
 unfolding textsFit
 texts-of-test f h =
     let first = both (textFits 16 (f .model)) _ h in
@@ -34,7 +38,7 @@ texts-of-test f h =
     record { model = first .0; version = second .0; name = third .0; date = third .1 }
 
 -- Where each text fits, the test holds.
-pub test-of-texts : (f : Fields) → TextsFit f → textsFit f ≡ true
+pub test-of-texts : (f : Fields) → TextsFit f → textsIn f ≡ true
 unfolding textsFit
 test-of-texts f t = rw (t .model, t .version, t .name) (t .date)
 
@@ -104,35 +108,20 @@ pub record FieldsStand (f : Fields) (s : List ℕ) : Type 0 where
   pub check-there : partOf s (f .start + length (f .image)) 4 ≡ spelled 4 (xorWords (f .image))
 
 -- The pieces of a block, in their order.
-piecesOf : Fields → Pieces
-piecesOf f =
-    (2, mark)
-    ∷ (4, spelled 4 (length (f .image)))
-    ∷ (4, spelled 4 (f .address))
-    ∷ (4, spelled 4 (f .start))
-    ∷ (2, spelled 2 (f .number))
-    ∷ (16, filled 16 (f .model))
-    ∷ (16, filled 16 (f .version))
-    ∷ (128, filled 128 (f .name))
-    ∷ (32, filled 32 (f .date))
-    ∷ (f .start - headerSize, replicate (f .start - headerSize) 0)
-    ∷ (length (f .image), f .image)
-    ∷ (4, spelled 4 (xorWords (f .image)))
-    ∷ []
+abbrev piecesOf : Fields → Pieces
+piecesOf f = headerPieces f ++ bodyPieces f
 
 -- A block is its pieces end to end.
 block-laid : (f : Fields) → blockBytes f ≡ endToEnd (piecesOf f)
-unfolding blockBytes headerOf piecesOf
+unfolding blockBytes headerOf
 block-laid f = simp (append-assoc, append-nil)
 
 -- Together they are as long as the block is said to be.
 pieces-together : (f : Fields) → headerSize ≤ f .start → sizeOfAll (piecesOf f) ≡ bytesOf f
-unfolding piecesOf
 pieces-together f h = omega arith
 
 -- Each piece is as long as it should be.
 pieces-sized : (f : Fields) → TextsFit f → Sized (piecesOf f)
-unfolding piecesOf
 pieces-sized f t =
     refl
     also length-spelled 4 (length (f .image))
@@ -154,7 +143,6 @@ length-block f h t = ap length (block-laid f) ∙ length-laid (piecesOf f) (piec
 
 -- Where the pieces stand end to end, the fields stand at their places.
 fields-of-pieces : (f : Fields) (s : List ℕ) → headerSize ≤ f .start → StandAt s 0 (piecesOf f) → FieldsStand f s
-unfolding piecesOf
 fields-of-pieces f s h p =
     let behind-gap : headerSize + (f .start - headerSize) ≡ f .start = omega arith in
     let (marks, (sizes, (bases, (begins, (types, (models, (versions, (names, (dates, (gaps, (images, (checks, end)))))))))))) = p in
@@ -175,7 +163,6 @@ fields-of-pieces f s h p =
 
 -- Where the fields stand at their places, the pieces stand end to end.
 pieces-of-fields : (f : Fields) (s : List ℕ) → headerSize ≤ f .start → FieldsStand f s → StandAt s 0 (piecesOf f)
-unfolding piecesOf
 pieces-of-fields f s h t =
     let behind-gap : headerSize + (f .start - headerSize) ≡ f .start = omega arith in
     t .mark-there
@@ -206,3 +193,27 @@ block-of-fields f s h t =
     block-laid f
     ∙ laid-of-stand (piecesOf f) s 0 (pieces-of-fields f s h t)
     ∙ ap (λ (n : ℕ). take n s) (pieces-together f h)
+
+-- ---- what the writer lays adds up to the block
+
+-- Every piece laid at its place is the block written over the front of the output.
+pub block-built : (f : Fields) (out : List ℕ) → headerSize ≤ f .start → textsIn f ≡ true → bytesOf f ≤ length out
+    → layAll (layAll out 0 (headerPieces f)) headerSize (bodyPieces f) ≡ over (blockBytes f) out
+block-built f out start texts room =
+    let sizes = pieces-sized f (texts-of-test f texts) in
+    let fits : 0 + sizeOfAll (piecesOf f) ≤ length out = omega (arith, pieces-together f start) in
+    rw over-nil at (lay-all (piecesOf f) [] out 0 refl sizes fits) ∙ ap (λ (front : List ℕ). over front out) (sym (block-laid f))
+
+-- The three runs behind the header, as they are laid.
+pub body-built : (f : Fields) (out : List ℕ) → headerSize ≤ f .start
+    → laid
+    (laid (laid out headerSize (replicate (f .start - headerSize) 0)) (f .start) (f .image))
+    (f .start + length (f .image))
+    (spelled 4 (xorWords (f .image)))
+    ≡ layAll out headerSize (bodyPieces f)
+body-built f out h = let behind-gap : headerSize + (f .start - headerSize) ≡ f .start = omega arith in rw behind-gap
+
+-- An image that a known type may have is no longer than the longest one.
+pub fits-short : (k : Known) (n : ℕ) → fits k n ≡ true → n ≤ longestImage
+fits-short (Is k) n h = image-short k n h
+fits-short Unknown n h = absurd (false≢true h)

@@ -10,7 +10,7 @@ use Rattle.kinds.specs.Kinds.{kindOf, baseOf, numberOf, fitsFile}
 use Rattle.kinds.specs.declared.Kind.{Kind}
 use Rattle.refusals.specs.Written.{written}
 use Rattle.ubf.specs.Block.{headerSize, blockOf, sizeOf, lengthIn, addressIn, startIn, typeIn, modelIn, versionIn, nameIn, dateIn, imageIn}
-use Rattle.ubf.specs.Pack.{Fields, filled, blockBytes, bytesOf, textsFit, packOf}
+use Rattle.ubf.specs.Pack.{Fields, filled, blockBytes, bytesOf, textsIn, packOf}
 use Rattle.ubf.specs.Walk.{Standing, Ending, whole, fault, Walked, walkOf}
 use Rattle.ubf.specs.declared.block.Block.{Block}
 use Rattle.ubf.specs.declared.block.Found.the-variants.{Whole, Refused}
@@ -23,8 +23,14 @@ pub record Packable (k : Kind) (f : Fields) : Type 0 where
   pub sized : fitsFile k (length (f .image)) ≡ true
   pub behind-header : headerSize ≤ f .start
   pub spelled-start : f .start < 2 ^ 32
-  pub texts : textsFit f ≡ true
+  pub texts : textsIn f ≡ true
   pub image-bytes : Bytes (f .image)
+
+-- U1, what is written (ReadWritten.antt). Such fields are written as their block, wherever the output has room.
+abbrev pub PackWrites : Type 0
+PackWrites =
+    (k : Kind) (f : Fields) (output : List ℕ) → Packable k f → bytesOf f ≤ length output
+    → packOf f output ≡ written (blockBytes f) output
 
 -- What reading a block gives back of its fields.
 pub record ReadAs (k : Kind) (f : Fields) (s : List ℕ) : Type 0 where

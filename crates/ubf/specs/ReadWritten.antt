@@ -4,39 +4,19 @@ use mathlib.Core.Bool.{true}
 use mathlib.Core.List.{List, _++_}
 use mathlib.Core.Path.{_≡_, refl, _∙_}
 use native.Mathlib.Omega.{arith}
-use borrow.Author.Tests.{leb-true}
-use lib.Dec.{leb}
+use borrow.Author.Tests.{eq-eqb, le-leb}
 use lib.ListN.{length, length-append}
-use Rattle.octets.specs.Choice.{both}
 use Rattle.octets.specs.Octets.{xorWords}
 use Rattle.octets.specs.PartLaws.{number-of-part, zeros-zero, xor-words-lt}
 use Rattle.kinds.specs.Kinds.{kindOf, numberOf, baseOf, fitsFile, longestImage}
+use Rattle.kinds.specs.KindsLaws.{kind-of-number, kind-spelled, image-short}
 use Rattle.kinds.specs.declared.Kind.{Kind}
-use Rattle.kinds.specs.declared.Kind.the-variants.{Navigation, Upgrade, Parameters}
 use Rattle.kinds.specs.declared.Known.the-variants.{Is}
 use Rattle.ubf.specs.Block.{headerSize, lengthIn, addressIn, startIn, typeIn, imageIn, checkIn}
 use Rattle.ubf.specs.BlockLaws.{Good, block-of-good}
-use Rattle.ubf.specs.Pack.{Fields, blockBytes, bytesOf}
+use Rattle.ubf.specs.Pack.{Fields, blockBytes, bytesOf, packOf}
 use Rattle.ubf.specs.PackLaws.{texts-of-test, zero-filled, test-of-zeros, FieldsStand, length-block, fields-of-block}
-use Rattle.ubf.specs.Promises.{Packable, ReadWritten}
-
--- The number of a kind is read as the kind.
-kind-of-number : (k : Kind) → kindOf (numberOf k) ≡ Is k
-unfolding kindOf
-kind-of-number Navigation = refl
-kind-of-number Upgrade = refl
-kind-of-number Parameters = refl
-
--- The number of a kind fits two bytes, its address four.
-kind-spelled : (k : Kind) → (numberOf k < 256 ^ 2) × (baseOf k < 256 ^ 4)
-kind-spelled Navigation = omega arith
-kind-spelled Upgrade = omega arith
-kind-spelled Parameters = omega arith
-
--- An image that fits a file has no more than the longest image's bytes.
-image-short : (k : Kind) (n : ℕ) → fitsFile k n ≡ true → n ≤ longestImage
-unfolding fitsFile
-image-short k n h = leb-true n longestImage (both (leb n longestImage) _ (both (leb 1 n) _ h .1) .0)
+use Rattle.ubf.specs.Promises.{Packable, ReadWritten, PackWrites}
 
 -- The numbers of a block, where its fields stand in some bytes.
 record NumbersIn (k : Kind) (f : Fields) (s : List ℕ) : Type 0 where
@@ -103,3 +83,17 @@ read-written k f rest p =
       date = t .date-there;
       image = n .image;
     }
+
+-- Fields that pass the tests are written as that block, wherever the output has room.
+pub pack-writes : PackWrites
+unfolding packOf
+pack-writes k f output p room = rw (
+  p .numbered,
+  p .based,
+  kind-of-number k,
+  eq-eqb (baseOf k) (baseOf k) refl,
+  p .sized,
+  le-leb headerSize (f .start) (p .behind-header),
+  p .texts,
+  le-leb (bytesOf f) (length output) room,
+)

@@ -13,7 +13,7 @@ use Rattle.kinds.specs.declared.Kind.{Kind}
 use Rattle.refusals.specs.Written.{written}
 use Rattle.ubf.specs.Block.{headerSize, lengthIn, addressIn, startIn, modelIn, versionIn, nameIn, dateIn, gapIn, imageIn}
 use Rattle.ubf.specs.BlockLaws.{Good, good-of-block}
-use Rattle.ubf.specs.Pack.{textsFit, blockBytes, packOf}
+use Rattle.ubf.specs.Pack.{textsIn, blockBytes, packOf}
 use Rattle.ubf.specs.PackLaws.{test-of-texts, filled-full, field-fits, zeros-of-test, FieldsStand, block-of-fields}
 use Rattle.ubf.specs.Promises.{fieldsIn, WrittenRead}
 
@@ -33,7 +33,7 @@ module _ (k : Kind) (s : List ℕ) (g : Good k s) where
       zeros-of-zero (gapIn s) (zeros-of-test s (g .filled) .gap) ∙ ap (λ (n : ℕ). replicate n 0) long
 
   -- The texts of a block that was read fit their fields.
-  texts-fit : textsFit (fieldsIn s) ≡ true
+  texts-fit : textsIn (fieldsIn s) ≡ true
   texts-fit =
       let z = zeros-of-test s (g .filled) in
       test-of-texts (fieldsIn s) (record {

@@ -1,5 +1,6 @@
 // UBF files: a block read, a block written, the walk over the blocks of a file.
 mod block;
+mod pack;
 mod walk;
 
 pub use block::Block;
@@ -11,5 +12,7 @@ pub use block::model;
 pub use block::read;
 pub use block::size;
 pub use block::version;
+pub use pack::Numbers;
+pub use pack::write;
 pub use walk::Nth;
 pub use walk::block_at;

@@ -187,7 +187,7 @@ nth-from-nth-from-requires t c κs =
     let some = block-some (a .rest .now) _ whole in
     let taken = c .before .before .size .ensures in
     let left : length (now (c .behind .result)) ≡ length (a .rest .now) - c .before .before .size .result =
-            ap length (c .behind .ensures) ∙ length-drop (c .before .before .size .result) (a .rest .now) in
+    ap length (c .behind .ensures) ∙ length-drop (c .before .before .size .result) (a .rest .now) in
     let limits = c .before .before .before .before .before .before .before .before .before .pre .1 in
     let all = c .before .before .before .before .before .before .before .before .before .pre .0 in
     let more = c .before .if2 .left in

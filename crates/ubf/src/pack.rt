@@ -1,0 +1,163 @@
+// Writing one block. Every test comes before the first byte, so a refusal leaves the output as lent.
+ghost use mathlib.Core.Path.{_≡_};
+ghost use Prim.Native.Nat.{_+_, _-_, _≤_, _<_};
+ghost use lib.ListN.{length, replicate};
+ghost use Rattle.octets.specs.Octets.{spelled, laid, layAll, xorWords};
+ghost use Rattle.kinds.specs.Kinds.{kindOf};
+ghost use Rattle.refusals.specs.Written.{Out};
+ghost use Rattle.ubf.specs.Pack.{
+  gathered,
+  filled,
+  headerPieces,
+  HeaderRoom,
+  textFits,
+  textsFit,
+  pairs,
+  fits,
+  packOf,
+};
+use crate::block::wide;
+use kinds::Known;
+use refusals::Written;
+
+// The numbers that a block carries besides its image's length, which is the image's own.
+pub struct Numbers {
+    pub number: u16,
+    pub address: u32,
+    pub start: u32,
+}
+
+// Writes a block into the output: type, address and start of the image, four texts without their zeros, the image.
+pub fn write(
+    numbers: Numbers,
+    model: &[u8],
+    version: &[u8],
+    name: &[u8],
+    date: &[u8],
+    image: &[u8],
+    out: &mut [u8],
+) -> Written
+    ensures { λ r. ⌜ record { answer = r; output = now (out .exit) }
+        ≡ packOf
+        (gathered numbers (now (model .entry)) (now (version .entry)) (now (name .entry)) (now (date .entry)) (now (image .entry)))
+        (now (out .entry)) ⌝ }
+{
+    if !type_pairs(numbers.number, numbers.address) {
+        return Written::Refused(refusals::WRONG_TYPE);
+    }
+    if !image_fits(numbers.number, image.len()) {
+        return Written::Refused(refusals::WRONG_IMAGE_LENGTH);
+    }
+    let start = wide(numbers.start);
+    if start < 0xD0 {
+        return Written::Refused(refusals::WRONG_START);
+    }
+    if !texts_fit(model, version, name, date) {
+        return Written::Refused(refusals::NOT_ZERO_FILLED);
+    }
+    let size = start + image.len() + 4;
+    if out.len() < size {
+        return Written::Refused(refusals::NO_ROOM);
+    }
+    lay_header(numbers, model, version, name, date, image, out);
+    lay_image(start, image, out);
+    Written::Count(size)
+}
+
+// Whether a type is known and has this address.
+fn type_pairs(number: u16, address: u32) -> bool
+    ensures { λ r. ⌜ r ≡ pairs (kindOf number) address ⌝ }
+{
+    match kinds::kind_of(number) {
+        Known::Is(kind) => address == kinds::base_of(kind),
+        Known::Unknown => false,
+    }
+}
+
+// Whether a type is known and may have an image of this length.
+fn image_fits(number: u16, length: usize) -> bool
+    ensures { λ r. ⌜ r ≡ fits (kindOf number) length ⌝ }
+{
+    match kinds::kind_of(number) {
+        Known::Is(kind) => kinds::fits_file(kind, length),
+        Known::Unknown => false,
+    }
+}
+
+fn texts_fit(model: &[u8], version: &[u8], name: &[u8], date: &[u8]) -> bool
+    ensures { λ r. ⌜ r ≡ textsFit (now (model .entry)) (now (version .entry)) (now (name .entry)) (now (date .entry)) ⌝ }
+{
+    if !text_fits(model, 16) {
+        return false;
+    }
+    if !text_fits(version, 16) {
+        return false;
+    }
+    if !text_fits(name, 128) {
+        return false;
+    }
+    text_fits(date, 32)
+}
+
+// Whether a field of n bytes can hold a text.
+fn text_fits(text: &[u8], n: usize) -> bool
+    ensures { λ r. ⌜ r ≡ textFits n (now (text .entry)) ⌝ }
+{
+    if n < text.len() {
+        return false;
+    }
+    octets::zero_filled(text)
+}
+
+// Every field of the header at its offset.
+fn lay_header(
+    numbers: Numbers,
+    model: &[u8],
+    version: &[u8],
+    name: &[u8],
+    date: &[u8],
+    image: &[u8],
+    out: &mut [u8],
+)
+    requires { ⌜ HeaderRoom (gathered numbers (now model) (now version) (now name) (now date) (now image)) (now out) ⌝ }
+    ensures { λ _. ⌜ now (out .exit)
+        ≡ layAll
+        (now (out .entry))
+        0
+        (headerPieces
+        (gathered numbers (now (model .entry)) (now (version .entry)) (now (name .entry)) (now (date .entry)) (now (image .entry)))) ⌝ }
+{
+    octets::copy(b"AT", out, 0x00);
+    octets::put_four(out, 0x02, image.len() as u32);
+    octets::put_four(out, 0x06, numbers.address);
+    octets::put_four(out, 0x0A, numbers.start);
+    octets::put_two(out, 0x0E, numbers.number);
+    lay_text(model, 16, out, 0x10);
+    lay_text(version, 16, out, 0x20);
+    lay_text(name, 128, out, 0x30);
+    lay_text(date, 32, out, 0xB0);
+}
+
+// A text in its field of n bytes, the rest of it zeros.
+fn lay_text(text: &[u8], n: usize, out: &mut [u8], at: usize)
+    requires { ⌜ (length (now text) ≤ n) × (at + n ≤ length (now out)) ⌝ }
+    ensures { λ _. ⌜ now (out .exit) ≡ laid (now (out .entry)) at (filled n (now (text .entry))) ⌝ }
+{
+    let length = text.len();
+    octets::copy(text, out, at);
+    octets::fill(out, at + length, n - length, 0);
+}
+
+// Zeros up to the start, the image, and the check that is worked out from it.
+fn lay_image(start: usize, image: &[u8], out: &mut [u8])
+    requires { ⌜ (0xD0 ≤ start) × (start + length (now image) ≤ length (now out)) ⌝ }
+    ensures { λ _. ⌜ now (out .exit)
+        ≡ laid
+        (laid (laid (now (out .entry)) 0xD0 (replicate (start - 0xD0) 0)) start (now (image .entry)))
+        (start + length (now (image .entry)))
+        (spelled 4 (xorWords (now (image .entry)))) ⌝ }
+{
+    octets::fill(out, 0xD0, start - 0xD0, 0);
+    octets::copy(image, out, start);
+    octets::put_four(out, start + image.len(), octets::xor_words(image));
+}
