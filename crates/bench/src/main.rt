@@ -23,17 +23,8 @@ fn try_write(payload: &[u8], out: &mut [u8]) {
             io::write_all(STDOUT_FILENO, b" bytes written\n");
         }
         Written::Refused(number) => {
-            show_refusal(number);
+            console::refusal(number);
+            console::say(b"\n");
         }
     }
-}
-
-fn show_refusal(number: u8) {
-    io::write_all(STDOUT_FILENO, b"refused ");
-    io::print_decimal(STDOUT_FILENO, number as u64);
-    io::write_all(STDOUT_FILENO, b", ");
-    let mut words = [0u8; 64];
-    let n = refusals::words(number, &mut words);
-    io::write_all(STDOUT_FILENO, &words[..n]);
-    io::write_all(STDOUT_FILENO, b"\n");
 }

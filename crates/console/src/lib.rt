@@ -1,0 +1,14 @@
+// What programs print for people, and whole files in and out. No contract can speak of what an operating system reads or writes, so
+// these calls are proved to be safe and to end, and what they do is tested.
+mod files;
+mod show;
+
+pub use files::Got;
+pub use files::read_whole;
+pub use files::write_whole;
+pub use show::kind;
+pub use show::number;
+pub use show::refusal;
+pub use show::say;
+pub use show::text;
+pub use show::word;

@@ -1,0 +1,65 @@
+// Texts and numbers on standard output.
+use kinds::Kind;
+use libc::STDOUT_FILENO;
+
+// Bytes as they are.
+pub fn say(bytes: &[u8]) {
+    io::write_all(STDOUT_FILENO, bytes);
+}
+
+pub fn number(n: usize) {
+    io::print_decimal(STDOUT_FILENO, n as u64);
+}
+
+// A refusal number and its words.
+pub fn refusal(number: u8) {
+    say(b"refused ");
+    io::print_decimal(STDOUT_FILENO, number as u64);
+    say(b", ");
+    let mut words = [0u8; 64];
+    let n = refusals::words(number, &mut words);
+    say(&words[..n]);
+}
+
+// A type in words.
+pub fn kind(kind: Kind) {
+    match kind {
+        Kind::Navigation => say(b"navigation code"),
+        Kind::Upgrade => say(b"upgrade code"),
+        Kind::Parameters => say(b"working parameters"),
+    }
+}
+
+// A number of four bytes in hex, high byte first, as people write it.
+pub fn word(x: u32) {
+    let bytes = [
+        (x / 16777216 % 256) as u8,
+        (x / 65536 % 256) as u8,
+        (x / 256 % 256) as u8,
+        (x % 256) as u8,
+    ];
+    let mut digits = [0u8; 8];
+    let n = hex::show(&bytes, &mut digits);
+    say(b"0x");
+    say(&digits[..n]);
+}
+
+// A text up to its first zero. A byte that no screen should get is shown as a dot.
+pub fn text(field: &[u8]) {
+    let mut i = 0;
+    while i < field.len() {
+        let byte = field[i];
+        if byte == 0 {
+            return;
+        }
+        say(&[shown(byte)]);
+        i += 1;
+    }
+}
+
+fn shown(byte: u8) -> u8 {
+    if byte < b' ' {
+        return b'.';
+    }
+    if byte < 0x7F { byte } else { b'.' }
+}
