@@ -2,7 +2,7 @@
 ghost use mathlib.Core.Path.{_≡_};
 ghost use Prim.Native.Nat.{_<_};
 ghost use Rattle.octets.specs.Octets.{Front};
-ghost use Rattle.hex.specs.Hex.{Shown, digitOf, showOf};
+ghost use Rattle.hex.specs.Hex.{digitOf, showOf};
 
 // Puts the digits of as many bytes as there is room for at the front of the output, and answers how many digits that is.
 pub fn show(bytes: &[u8], out: &mut [u8]) -> usize

@@ -4,14 +4,14 @@ use mathlib.Core.Bool.{Bool, true, false, _&&_, and-false, false≢true}
 use mathlib.Core.List.{List, [], _∷_, _++_, append-assoc, append-nil}
 use mathlib.Core.Path.{_≡_, refl, sym, ap, ap₂, _∙_}
 use native.Mathlib.Decide.{decLe}
-use native.Mathlib.Nat.{div-add-mod', le-trans, le-add-right, min-eq-left, min-eq-right, div-lt-iff-lt-mul, pow-suc}
+use native.Mathlib.Nat.{le-trans, le-add-right, min-eq-left, min-eq-right, div-lt-iff-lt-mul, pow-suc}
 use native.Mathlib.Numerals.{add-one, add-two}
 use native.Mathlib.Omega.{arith}
 use borrow.Author.Tests.{eq-eqb, eqb-true, ne-eqb}
 use lib.Bits.{bitXor}
 use lib.Dec.{eqb, lit<}
-use lib.ListN.{length, getD, take, drop, set, length-append, length-take, length-drop, length-set, drop-of-length-le, take-append-drop}
-use lib.Seq.{take-suc, drop-cons, drop-length, take-length, take-all, take-nil, drop-nil, getD-drop, set-append-seam, append-snoc, paste, sets, take-at, drop-append-add, drop-drop, length-take-le}
+use lib.ListN.{length, getD, take, drop, set, length-append, length-drop, drop-of-length-le, take-append-drop}
+use lib.Seq.{take-suc, drop-cons, drop-length, take-length, take-all, take-nil, drop-nil, set-append-seam, append-snoc, paste, sets, take-at, drop-append-add, drop-drop, length-take-le}
 use Rattle.octets.specs.Choice.{both}
 use Rattle.octets.specs.Octets.{textLength, xorWordsFrom, Bytes, little, spelled, numberAt, xorFrom, xorOf, allZero, sameBytes, laid, over}
 

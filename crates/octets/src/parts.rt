@@ -1,7 +1,6 @@
 // Parts of a slice, and texts that zeros fill up.
 ghost use mathlib.Core.Path.{_≡_};
-ghost use Prim.Native.Nat.{_≤_};
-ghost use lib.ListN.{length, drop};
+ghost use lib.ListN.{drop};
 ghost use Rattle.octets.specs.Octets.{partOf, textLength, zeroFilled};
 use crate::runs::zeros;
 

@@ -3,7 +3,7 @@ use Prim.Native.Nat.{ℕ, _+_, _-_}
 use mathlib.Core.Bool.{Bool, true, false, cond, not, _&&_}
 use mathlib.Core.List.{List, [], _∷_}
 use lib.Dec.{eqb, leb, ltb}
-use lib.ListN.{length, getD, take, drop, set, replicate}
+use lib.ListN.{getD, take, set, replicate}
 use Rattle.octets.specs.Octets.{partOf}
 use Rattle.wire.specs.Escape.{headMark, escapeMark, tailMark, mayFollow, originalOf}
 use Rattle.wire.specs.Frame.{Frame, longestContent, isContent}

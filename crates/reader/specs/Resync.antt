@@ -6,7 +6,6 @@ use native.Mathlib.Nat.{zero-add}
 use native.Mathlib.Numerals.{add-one}
 use lib.ListN.{length}
 use Rattle.wire.specs.Escape.{headMark}
-use Rattle.reader.specs.Reader.{fresh}
 use Rattle.reader.specs.Runs.{Placed}
 use Rattle.reader.specs.Promises.{Resync}
 use Rattle.reader.specs.Seen.{outside, within, seenOf, seenHanded}

@@ -17,7 +17,7 @@ use Rattle.wire.specs.FrameLaws.{content-long}
 use Rattle.reader.specs.Reader.{fresh, knownOf, heldOf, closedOf, waitingOf, openedOf, answers}
 use Rattle.reader.specs.Reader.{payloadIn, framesIn, framesOf}
 use Rattle.reader.specs.Reader.{contentStep, followStep, tailStep, insideStep, headStep, knownStep, stepOf}
-use Rattle.reader.specs.Runs.{placed, later, handedFrom, handedOf}
+use Rattle.reader.specs.Runs.{later, handedFrom, handedOf}
 use Rattle.reader.specs.Promises.{Any}
 use Rattle.octets.specs.Choice.{by-test, either-way, both}
 use Rattle.octets.specs.Lists.{part-take}

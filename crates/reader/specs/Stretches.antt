@@ -103,7 +103,7 @@ module _ (past : List ℕ) (c : List ℕ) (b : ℕ) where
   tail-ends h e g = record {
     before = h .before;
     form = rw (content-of-frame c (h .bytes) g, e) (held-more past false c h (tailMark ∷ []));
-    acceptable = content-acceptable c (h .bytes) (h .fits) g;
+    acceptable = content-acceptable c (h .bytes) (h .fits);
   }
 
   -- The tail.

@@ -1,9 +1,9 @@
 // The reader's state and its step.
 ghost use mathlib.Core.Path.{_≡_};
 ghost use Prim.Native.Nat.{_≤_};
-ghost use lib.ListN.{length, take};
+ghost use lib.ListN.{take};
 ghost use Rattle.wire.specs.Frame.{isContent};
-ghost use Rattle.reader.specs.Reader.{fresh, knownOf, openedOf, closedOf, answers, headStep, contentStep, followStep, tailStep, insideStep, stepOf, payloadIn};
+ghost use Rattle.reader.specs.Reader.{fresh, knownOf, closedOf, answers, headStep, contentStep, followStep, tailStep, insideStep, stepOf, payloadIn};
 
 // The content so far stands in the first count bytes of the store.
 pub struct Reader {

@@ -1,7 +1,7 @@
 // The refusal numbers of document 01's table by name, and the words that a program prints beside a number.
 ghost use mathlib.Core.Path.{_≡_};
 ghost use Rattle.octets.specs.Octets.{Front};
-ghost use Rattle.refusals.specs.Refusals.{Said, sayOf, wordsOf};
+ghost use Rattle.refusals.specs.Refusals.{sayOf, wordsOf};
 
 pub const PAYLOAD_TOO_LONG: u8 = 1;
 

@@ -1,17 +1,16 @@
 -- What UBF files promise, to be read without the proofs. Each statement is proved in the file named beside it.
 use Prim.Native.Nat.{ℕ, _+_, _^_, _≤_, _<_}
 use mathlib.Core.Bool.{true}
-use mathlib.Core.List.{List, [], _∷_, _++_, List·Memᴰ}
+use mathlib.Core.List.{List, [], _∷_, _++_}
 use mathlib.Core.Path.{_≡_}
-use lib.Dec.{leb}
 use lib.ListN.{length, take, drop}
-use Rattle.octets.specs.Octets.{Bytes, partOf, xorWords}
-use Rattle.kinds.specs.Kinds.{kindOf, baseOf, numberOf, fitsFile}
+use Rattle.octets.specs.Octets.{Bytes, xorWords}
+use Rattle.kinds.specs.Kinds.{baseOf, numberOf, fitsFile}
 use Rattle.kinds.specs.declared.Kind.{Kind}
 use Rattle.refusals.specs.Written.{written}
-use Rattle.ubf.specs.Block.{headerSize, blockOf, sizeOf, lengthIn, addressIn, startIn, typeIn, modelIn, versionIn, nameIn, dateIn, imageIn}
+use Rattle.ubf.specs.Block.{headerSize, blockOf, sizeOf, addressIn, startIn, typeIn, modelIn, versionIn, nameIn, dateIn, imageIn}
 use Rattle.ubf.specs.Pack.{Fields, filled, blockBytes, bytesOf, textsIn, packOf}
-use Rattle.ubf.specs.Walk.{Standing, Ending, whole, fault, Walked, walkOf}
+use Rattle.ubf.specs.Walk.{Standing, Ending, whole, fault, walkOf}
 use Rattle.ubf.specs.declared.block.Block.{Block}
 use Rattle.ubf.specs.declared.block.Found.the-variants.{Whole, Refused}
 

@@ -1,6 +1,5 @@
 -- What was written is read again.
-use Prim.Native.Nat.{ℕ, _+_, _-_, _^_, _≤_, _<_}
-use mathlib.Core.Bool.{true}
+use Prim.Native.Nat.{ℕ, _+_, _-_, _≤_}
 use mathlib.Core.List.{List, _++_}
 use mathlib.Core.Path.{_≡_, refl, _∙_}
 use native.Mathlib.Omega.{arith}
@@ -8,10 +7,9 @@ use borrow.Author.Tests.{eq-eqb, le-leb}
 use lib.ListN.{length, length-append}
 use Rattle.octets.specs.Octets.{xorWords}
 use Rattle.octets.specs.PartLaws.{number-of-part, zeros-zero, xor-words-lt}
-use Rattle.kinds.specs.Kinds.{kindOf, numberOf, baseOf, fitsFile, longestImage}
+use Rattle.kinds.specs.Kinds.{numberOf, baseOf}
 use Rattle.kinds.specs.KindsLaws.{kind-of-number, kind-spelled, image-short}
 use Rattle.kinds.specs.declared.Kind.{Kind}
-use Rattle.kinds.specs.declared.Known.the-variants.{Is}
 use Rattle.ubf.specs.Block.{headerSize, lengthIn, addressIn, startIn, typeIn, imageIn, checkIn}
 use Rattle.ubf.specs.BlockLaws.{Good, block-of-good}
 use Rattle.ubf.specs.Pack.{Fields, blockBytes, bytesOf, packOf}

@@ -6,7 +6,7 @@ use native.Mathlib.Omega.{arith}
 use lib.ListN.{length, drop, length-drop}
 use Rattle.ubf.specs.Block.{blockOf, sizeOf}
 use Rattle.ubf.specs.BlockLaws.{block-within, block-some}
-use Rattle.ubf.specs.Walk.{Walked, whole, fault, standing, ends, behind, goOn, walkOn, walkBy, walkFrom, walkOf}
+use Rattle.ubf.specs.Walk.{Walked, whole, fault, standing, ends, behind, goOn, walkOn, walkBy, walkFrom}
 use Rattle.ubf.specs.Walk.{nthOf, nthFrom}
 use Rattle.ubf.specs.declared.block.Block.{Block}
 use Rattle.ubf.specs.declared.block.Found.{Found}

@@ -4,7 +4,6 @@ ghost use Prim.Native.Nat.{_+_, _-_, _≤_, _<_};
 ghost use lib.ListN.{length, replicate};
 ghost use Rattle.octets.specs.Octets.{spelled, laid, layAll, xorWords};
 ghost use Rattle.kinds.specs.Kinds.{kindOf};
-ghost use Rattle.refusals.specs.Written.{Out};
 ghost use Rattle.ubf.specs.Pack.{
   gathered,
   filled,

@@ -1,7 +1,7 @@
 -- The laws of content: what is made of a frame is content, and content is made of its frame.
-use Prim.Native.Nat.{ℕ, zero, suc, _+_, _-_, _≤_, _<_}
-use mathlib.Core.Bool.{Bool, true, _&&_}
-use mathlib.Core.List.{List, [], _∷_, _++_}
+use Prim.Native.Nat.{ℕ, suc, _+_, _-_, _≤_, _<_}
+use mathlib.Core.Bool.{true}
+use mathlib.Core.List.{List, [], _∷_}
 use mathlib.Core.Path.{_≡_, refl, sym, ap, _∙_}
 use native.Mathlib.Omega.{arith}
 use borrow.Author.Tests.{le-leb, leb-true, eq-eqb, eqb-true}
@@ -111,8 +111,8 @@ content-of-frame c b h =
     rw (before-check c b p, ← p .checked, ← take-suc c (length c - 1) 0 last) (take-all (suc (length c - 1)) c (omega arith))
 
 -- The frame that content carries is acceptable.
-pub content-acceptable : (c : List ℕ) → Bytes c → length c ≤ longestContent → isContent c ≡ true → Acceptable (frameIn c)
-content-acceptable c b l h = record {
+pub content-acceptable : (c : List ℕ) → Bytes c → length c ≤ longestContent → Acceptable (frameIn c)
+content-acceptable c b l = record {
   command-byte = byte-at c 3 b;
   payload-bytes = bytes-take (length c - 5) (drop 4 c) (bytes-drop 4 c b);
   payload-fits = simp (length-take, length-drop) (omega arith);

@@ -1,7 +1,7 @@
 -- What the writer's steps add up to: content built in place, and its wire form laid byte by byte.
-use Prim.Native.Nat.{ℕ, suc, _+_, _≤_, _<_}
+use Prim.Native.Nat.{ℕ, _+_, _≤_, _<_}
 use mathlib.Core.Bool.{true, false}
-use mathlib.Core.List.{List, [], _∷_, _++_, append-assoc, append-nil}
+use mathlib.Core.List.{List, [], _∷_, _++_, append-assoc}
 use mathlib.Core.Path.{_≡_, refl, sym, ap, _∙_}
 use native.Mathlib.Numerals.{add-one}
 use native.Mathlib.Omega.{arith}
@@ -15,7 +15,7 @@ use Rattle.refusals.specs.Refusals.{payloadTooLong, noRoom}
 use Rattle.wire.specs.Write.{writeOf}
 use Rattle.refusals.specs.Written.{refused, written}
 use Rattle.wire.specs.EscapeLaws.{escape-mark, escape-plain, escaped-append, escaped-snoc}
-use Rattle.wire.specs.FrameLaws.{length-unchecked, length-content}
+use Rattle.wire.specs.FrameLaws.{length-unchecked}
 use Rattle.wire.specs.Frame.{Frame, device, longestPayload, uncheckedOf, contentOf, wireForm, wireOf}
 
 -- Length, device, command and payload, each put at its place, are the content before its check.

@@ -6,7 +6,6 @@ ghost use lib.Seq.{sets};
 ghost use Rattle.octets.specs.Octets.{over};
 ghost use Rattle.wire.specs.Escape.{escapeOf};
 ghost use Rattle.wire.specs.Frame.{wireForm};
-ghost use Rattle.refusals.specs.Written.{Out};
 ghost use Rattle.wire.specs.Write.{writeOf};
 use crate::content::PAYLOAD_MOST;
 use crate::content::content_of;

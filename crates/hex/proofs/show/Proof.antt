@@ -1,6 +1,6 @@
 -- `hex::show`: after i turns the digits of the first i bytes stand at the front.
 use borrow.Author.Needs.{needs}
-use Prim.Native.Nat.{ℕ, _+_, _*_, _-_, _/_, _≤_, min}
+use Prim.Native.Nat.{ℕ, _*_, _-_, _/_, _≤_, min}
 use mathlib.Core.List.{List}
 use mathlib.Core.Path.{_≡_, refl, sym, ap, _∙_}
 use native.Mathlib.Omega.{arith}
@@ -9,7 +9,7 @@ use lib.Seq.{length-take-le}
 use Rattle.octets.specs.Lists.{take-least, front-of}
 use Rattle.octets.specs.Octets.{over}
 use Rattle.octets.specs.OctetsLaws.{over-nil}
-use Rattle.hex.specs.Hex.{Shown, hexOf, showOf}
+use Rattle.hex.specs.Hex.{hexOf, showOf}
 use Rattle.hex.specs.HexLaws.{length-hex, hex-more}
 use Rattle.hex.proofs.show.Statement.{statement}
 use Rattle.hex.proofs.show.Tie as tie

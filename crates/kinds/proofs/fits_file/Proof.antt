@@ -1,6 +1,6 @@
 -- `kinds::fits_file`: the three tests in the order of the definition.
 use native.Mathlib.Omega.{arith}
-use borrow.Author.Tests.{le-leb, lt-leb, eq-eqb, ne-eqb}
+use borrow.Author.Tests.{le-leb, lt-leb}
 use Rattle.kinds.specs.Kinds.{fitsFile}
 use Rattle.kinds.proofs.fits_file.Statement.{statement}
 use Rattle.kinds.proofs.fits_file.Tie as tie

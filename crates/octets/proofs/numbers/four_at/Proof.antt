@@ -1,6 +1,6 @@
 -- `octets::four_at`: two numbers of two bytes are one of four.
 use borrow.Author.Needs.{needs}
-use mathlib.Core.Path.{sym, _∙_}
+use mathlib.Core.Path.{sym}
 use native.Mathlib.Omega.{arith}
 use Rattle.octets.specs.OctetsLaws.{number-past, number-four}
 use Rattle.octets.proofs.numbers.four_at.Statement.{statement}

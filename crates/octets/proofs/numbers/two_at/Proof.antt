@@ -1,6 +1,6 @@
 -- `octets::two_at`: the two bytes are the number by its law.
 use borrow.Author.Needs.{needs}
-use mathlib.Core.Path.{sym, _∙_}
+use mathlib.Core.Path.{sym}
 use native.Mathlib.Omega.{arith}
 use Rattle.octets.specs.OctetsLaws.{number-past, number-two}
 use Rattle.octets.proofs.numbers.two_at.Statement.{statement}

@@ -1,6 +1,6 @@
 -- `octets::text_length`: while no zero was passed, the text is as long as what was passed and the text of the rest.
 use Prim.Native.Nat.{_+_, _-_, _≤_}
-use mathlib.Core.Path.{_≡_, refl, sym, ap, _∙_}
+use mathlib.Core.Path.{_≡_}
 use native.Mathlib.Omega.{arith}
 use lib.ListN.{length, drop}
 use Rattle.octets.specs.Octets.{textLength}

@@ -1,9 +1,9 @@
 -- `octets::zero_filled`: what stands behind the text is tested for zeros.
-use mathlib.Core.Path.{sym, ap, _∙_}
+use mathlib.Core.Path.{ap, _∙_}
 use native.Mathlib.Omega.{arith}
 use lib.ListN.{length, drop, length-drop}
 use lib.Seq.{take-all}
-use Rattle.octets.specs.Octets.{allZero, partOf, textLength, zeroFilled}
+use Rattle.octets.specs.Octets.{allZero, partOf, zeroFilled}
 use borrow.Author.Needs.{needs}
 use Rattle.octets.proofs.parts.zero_filled.Statement.{statement}
 use Rattle.octets.proofs.parts.zero_filled.Tie as tie

@@ -1,11 +1,10 @@
 -- `octets::copy`: after i turns the first i bytes are copied; at the end as many as fit.
-use Prim.Native.Nat.{_+_, _≤_, _-_, min}
-use mathlib.Core.Path.{_≡_, refl, sym, ap, _∙_}
+use Prim.Native.Nat.{_≤_, _-_, min}
+use mathlib.Core.Path.{_≡_, sym, ap, _∙_}
 use native.Mathlib.Numerals.{add-one}
 use native.Mathlib.Omega.{arith}
-use lib.ListN.{length, drop, getD}
+use lib.ListN.{length}
 use lib.Seq.{paste, paste-zero, paste-suc, length-paste}
-use Rattle.octets.specs.Octets.{laid}
 use Rattle.octets.specs.OctetsLaws.{laid-past, laid-paste}
 use Rattle.octets.proofs.runs.copy.Statement.{statement}
 use Rattle.octets.proofs.runs.copy.Tie as tie

@@ -1,12 +1,10 @@
 -- `octets::fill`: after i turns i bytes are filled; at the end as many as fit.
-use Prim.Native.Nat.{ℕ, _+_, _-_, _≤_, min}
-use mathlib.Core.List.{List}
-use mathlib.Core.Path.{_≡_, refl, sym, ap, _∙_}
+use Prim.Native.Nat.{_-_, _≤_, min}
+use mathlib.Core.Path.{_≡_, sym, ap, _∙_}
 use native.Mathlib.Numerals.{add-one}
 use native.Mathlib.Omega.{arith}
-use lib.ListN.{length, set, replicate, length-replicate, getD-replicate}
+use lib.ListN.{length, replicate, length-replicate, getD-replicate}
 use lib.Seq.{paste, paste-zero, paste-suc, length-paste}
-use Rattle.octets.specs.Octets.{laid}
 use Rattle.octets.specs.OctetsLaws.{laid-past, laid-paste}
 use Rattle.octets.proofs.runs.fill.Statement.{statement}
 use Rattle.octets.proofs.runs.fill.Tie as tie

@@ -1,10 +1,9 @@
 -- `octets::same`: while the bytes passed agree, the answer for the rest is the answer for all.
-use Prim.Native.Nat.{_+_, _≤_, _-_}
-use mathlib.Core.Bool.{_&&_}
-use mathlib.Core.Path.{_≡_, refl, sym, ap, _∙_}
+use Prim.Native.Nat.{_≤_, _-_}
+use mathlib.Core.Path.{_≡_, refl, sym, _∙_}
 use native.Mathlib.Omega.{arith}
 use borrow.Author.Tests.{eq-eqb, ne-eqb}
-use lib.ListN.{length, drop, getD}
+use lib.ListN.{length, drop}
 use Rattle.octets.specs.Octets.{sameBytes}
 use Rattle.octets.specs.OctetsLaws.{same-more, same-end, same-longer}
 use Rattle.octets.proofs.runs.same.Statement.{statement}

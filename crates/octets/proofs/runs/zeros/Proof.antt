@@ -4,7 +4,7 @@ use mathlib.Core.Bool.{_&&_}
 use mathlib.Core.Path.{_≡_, refl, sym, ap, _∙_}
 use native.Mathlib.Omega.{arith}
 use borrow.Author.Tests.{eq-eqb, ne-eqb}
-use lib.ListN.{length, drop, getD}
+use lib.ListN.{length, drop}
 use Rattle.octets.specs.Octets.{allZero}
 use Rattle.octets.specs.OctetsLaws.{zero-more, zero-end}
 use Rattle.octets.proofs.runs.zeros.Statement.{statement}

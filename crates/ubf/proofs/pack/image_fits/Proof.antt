@@ -1,6 +1,5 @@
 -- `ubf::image_fits`: the kind decides.
 use mathlib.Core.Path.{sym, ap, _∙_}
-use lib.Dec.{eqb}
 use Rattle.ubf.specs.Pack.{fits}
 use borrow.Author.Needs.{needs}
 use Rattle.ubf.proofs.pack.image_fits.Statement.{statement}

@@ -1,10 +1,8 @@
 -- `ubf::lay_header`: nine runs, each behind the one before it.
-use Prim.Native.Nat.{_+_}
-use mathlib.Core.Path.{_≡_, sym, ap, _∙_}
+use mathlib.Core.Path.{_≡_, ap, _∙_}
 use native.Mathlib.Omega.{arith}
 use lib.ListN.{length}
 use Rattle.octets.specs.Octets.{laid, spelled}
-use Rattle.ubf.specs.Block.{mark}
 use Rattle.ubf.specs.Pack.{gathered, filled}
 use Rattle.ubf.specs.PackLaws.{TextsFit, texts-of-test, fits-field}
 use borrow.Author.Needs.{needs}

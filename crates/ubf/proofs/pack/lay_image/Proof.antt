@@ -1,7 +1,7 @@
 -- `ubf::lay_image`: three runs, each behind the one before it.
-use Prim.Native.Nat.{_+_, _-_}
-use mathlib.Core.Path.{_≡_, sym, ap, ap₂, _∙_}
-use lib.ListN.{length, replicate}
+use Prim.Native.Nat.{_+_}
+use mathlib.Core.Path.{ap, ap₂, _∙_}
+use lib.ListN.{length}
 use Rattle.octets.specs.Octets.{laid, spelled}
 use borrow.Author.Needs.{needs}
 use Rattle.ubf.proofs.pack.lay_image.Statement.{statement}

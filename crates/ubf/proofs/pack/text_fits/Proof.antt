@@ -1,5 +1,4 @@
 -- `ubf::text_fits`: the length, then the zeros.
-use mathlib.Core.Path.{_∙_}
 use borrow.Author.Tests.{le-leb, lt-leb}
 use Rattle.ubf.specs.Pack.{textFits}
 use borrow.Author.Needs.{needs}

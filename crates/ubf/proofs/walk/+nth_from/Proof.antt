@@ -7,9 +7,8 @@ use denote.Ref.{now}
 use lib.ListN.{length, drop, length-drop}
 use Rattle.ubf.specs.Block.{sizeOf}
 use Rattle.ubf.specs.BlockLaws.{block-within, block-some}
-use Rattle.ubf.specs.Walk.{nthFrom}
 use Rattle.ubf.specs.WalkLaws.{nth-refused, nth-here, nth-last, nth-next}
-use Prim.Native.Nat.{ℕ, suc, _+_, _-_, _<_}
+use Prim.Native.Nat.{ℕ, suc, _-_, _<_}
 use borrow.Fn.Kinds.{In}
 use borrow.Fn.PlainCycle.{Measures, is, falls, and}
 use Rattle.ubf.proofs.walk.nth_from.Reads as nth-from

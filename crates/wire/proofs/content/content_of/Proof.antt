@@ -1,9 +1,9 @@
 -- `wire::content_of`: each part at its place over zeros, then the check over what stands before it.
 use Prim.Native.Nat.{ℕ, _+_}
 use mathlib.Core.List.{List}
-use mathlib.Core.Path.{_≡_, refl, sym, ap, _∙_}
+use mathlib.Core.Path.{_≡_, sym, ap, _∙_}
 use native.Mathlib.Omega.{arith}
-use lib.ListN.{length, set, take, replicate, length-set, length-replicate}
+use lib.ListN.{length, set, take, replicate, length-replicate}
 use lib.Seq.{length-take-le}
 use Rattle.octets.specs.Octets.{laid, over, xorOf}
 use Rattle.octets.specs.OctetsLaws.{length-over, take-over}

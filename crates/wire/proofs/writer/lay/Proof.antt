@@ -1,12 +1,11 @@
 -- `wire::writer::lay`: after i turns the head and the first i content bytes stand at the front.
 use Prim.Native.Nat.{ℕ, _+_, _-_, _≤_, _<_}
-use mathlib.Core.List.{List, _∷_, []}
+use mathlib.Core.List.{List, []}
 use mathlib.Core.Path.{_≡_, refl, sym, ap, _∙_}
 use native.Mathlib.Omega.{arith}
-use lib.ListN.{length, getD, set, length-set}
-use lib.Seq.{sets}
+use lib.ListN.{length, set, length-set}
 use Rattle.octets.specs.Octets.{over}
-use Rattle.wire.specs.Escape.{headMark, tailMark, escaped, escapeOf}
+use Rattle.wire.specs.Escape.{headMark, tailMark, escaped}
 use Rattle.wire.specs.Frame.{wireForm}
 use Rattle.wire.specs.WriteLaws.{begun, begun-size, room-tail, head-first, head-kept, lay-size, lay-more, lay-tail, wire-size}
 use Rattle.wire.proofs.writer.lay.Statement.{statement}

@@ -2,7 +2,7 @@
 use Prim.Native.Nat.{_+_}
 use native.Mathlib.Omega.{arith}
 use mathlib.Core.Path.{sym, ap, _∙_}
-use lib.ListN.{length, set, length-set}
+use lib.ListN.{set, length-set}
 use Rattle.wire.specs.WriteLaws.{width-mark, width-plain, stores-mark, stores-plain}
 use borrow.Author.Needs.{needs}
 use Rattle.wire.proofs.writer.lay_byte.Statement.{statement}

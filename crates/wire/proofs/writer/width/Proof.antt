@@ -1,6 +1,6 @@
 -- `wire::writer::width`: a mark takes the escape and one byte, any other byte itself.
 use native.Mathlib.Omega.{arith}
-use mathlib.Core.Path.{sym, ap, _∙_}
+use mathlib.Core.Path.{sym, _∙_}
 use Rattle.wire.specs.WriteLaws.{width-mark, width-plain}
 use borrow.Author.Needs.{needs}
 use Rattle.wire.proofs.writer.width.Statement.{statement}

@@ -1,13 +1,10 @@
 -- `wire::write`: the tests come before the first store, so a refusal leaves the output as lent.
-use Prim.Native.Nat.{_+_}
-use mathlib.Core.Path.{_≡_, refl, sym, ap, _∙_}
+use mathlib.Core.Path.{_≡_, sym, ap, _∙_}
 use native.Mathlib.Omega.{arith}
-use borrow.Author.Tests.{lt-ltb, le-ltb}
-use lib.ListN.{length, take, length-take}
+use lib.ListN.{length, length-take}
 use lib.Seq.{length-take-le}
 use Rattle.octets.specs.Octets.{over}
 use Rattle.wire.specs.Frame.{Frame, wireForm, wireOf}
-use Rattle.refusals.specs.Written.{Out, written}
 use Rattle.wire.specs.WriteLaws.{write-too-long, write-no-room, write-done}
 use borrow.Author.Needs.{needs}
 use Rattle.wire.proofs.writer.write.Statement.{statement}

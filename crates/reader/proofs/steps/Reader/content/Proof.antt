@@ -1,6 +1,6 @@
 -- `Reader::content`: the count decides whether there is room.
 use borrow.Author.Tests.{lt-ltb, le-ltb}
-use mathlib.Core.Path.{sym, ap, _∙_}
+use mathlib.Core.Path.{sym, _∙_}
 use Rattle.octets.specs.Choice.{cond-yes, cond-no}
 use Rattle.reader.specs.Reader.{contentStep}
 use borrow.Author.Needs.{needs}

@@ -1,6 +1,5 @@
 -- `Reader::dropped`: the closed reader beside the answer.
-use mathlib.Core.Path.{sym, ap, _∙_}
-use Rattle.octets.specs.Choice.{cond-yes, cond-no}
+use mathlib.Core.Path.{ap}
 use Rattle.reader.specs.Reader.{answers}
 use borrow.Author.Needs.{needs}
 use Rattle.reader.proofs.steps.Reader.dropped.Statement.{statement}

@@ -1,5 +1,5 @@
 -- `Reader::head`: dropped exactly where a frame was open.
-use mathlib.Core.Path.{sym, ap, _∙_}
+use mathlib.Core.Path.{sym, ap}
 use Rattle.octets.specs.Choice.{cond-yes, cond-no}
 use Rattle.reader.specs.Reader.{answers, openedOf, headStep}
 use Rattle.reader.proofs.steps.Reader.head.Statement.{statement}

@@ -1,6 +1,6 @@
 -- `Reader::inside`: the tests in the order of the definition.
 use borrow.Author.Tests.{eq-eqb, ne-eqb}
-use mathlib.Core.Path.{sym, ap, _∙_}
+use mathlib.Core.Path.{sym, _∙_}
 use Rattle.octets.specs.Choice.{cond-yes, cond-no}
 use Rattle.reader.specs.Reader.{insideStep}
 use borrow.Author.Needs.{needs}

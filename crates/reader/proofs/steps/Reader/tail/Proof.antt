@@ -6,7 +6,7 @@ use mathlib.Core.Bool.{not, _&&_}
 use Rattle.wire.specs.Frame.{isContent}
 use mathlib.Core.Path.{sym, ap, _∙_}
 use Rattle.octets.specs.Choice.{cond-yes, cond-no}
-use Rattle.reader.specs.Reader.{answers, heldOf, closedOf, tailStep}
+use Rattle.reader.specs.Reader.{answers, heldOf, tailStep}
 use borrow.Author.Needs.{needs}
 use Rattle.reader.proofs.steps.Reader.tail.Statement.{statement}
 use Rattle.reader.proofs.steps.Reader.tail.Tie as tie
