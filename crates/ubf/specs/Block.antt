@@ -60,10 +60,16 @@ checkIn s = numberAt 4 s (startIn s + lengthIn s)
 abbrev pub mark : List ℕ
 mark = 0x41 ∷ 0x54 ∷ []
 
--- Gap and texts are filled with zeros.
+-- A text that its field can hold: not longer, and nothing but zero behind a zero.
+unfoldable pub textFits : ℕ → List ℕ → Bool
+textFits n text = leb (length text) n && zeroFilled text
+
+unfoldable pub textsFit : List ℕ → List ℕ → List ℕ → List ℕ → Bool
+textsFit model version name date = textFits 16 model && (textFits 16 version && (textFits 128 name && textFits 32 date))
+
+-- Texts and gap are filled with zeros.
 unfoldable pub filledIn : List ℕ → Bool
-filledIn s =
-    zeroFilled (modelIn s) && (zeroFilled (versionIn s) && (zeroFilled (nameIn s) && (zeroFilled (dateIn s) && allZero (gapIn s))))
+filledIn s = textsFit (modelIn s) (versionIn s) (nameIn s) (dateIn s) && allZero (gapIn s)
 
 -- How many bytes the block takes: up to its image, the image, the check.
 abbrev pub sizeOf : Block → ℕ

@@ -1,17 +1,17 @@
 -- Writing one block.
 use Prim.Native.Nat.{ℕ, _+_, _-_, _≤_}
-use mathlib.Core.Bool.{Bool, true, false, cond, _&&_}
+use mathlib.Core.Bool.{Bool, true, false, cond}
 use mathlib.Core.List.{List, [], _∷_, _++_}
 use mathlib.Core.Path.{_≡_}
 use lib.Dec.{eqb, leb}
 use lib.ListN.{length, replicate}
-use Rattle.octets.specs.Octets.{spelled, zeroFilled, xorWords, Pieces}
+use Rattle.octets.specs.Octets.{spelled, xorWords, Pieces}
 use Rattle.kinds.specs.Kinds.{kindOf, baseOf, fitsFile, longestImage}
 use Rattle.kinds.specs.declared.Known.{Known}
 use Rattle.kinds.specs.declared.Known.the-variants.{Is, Unknown}
 use Rattle.refusals.specs.Refusals.{noRoom, wrongType, wrongStart, wrongImageLength, notZeroFilled}
 use Rattle.refusals.specs.Written.{Out, refused, written}
-use Rattle.ubf.specs.Block.{headerSize, mark}
+use Rattle.ubf.specs.Block.{headerSize, mark, textsFit}
 use Rattle.ubf.specs.declared.pack.Numbers.{Numbers}
 
 -- What a block is made of: type, address and start of the image, the texts, the image.
@@ -83,13 +83,6 @@ blockBytes f = headerOf f ++ (replicate (f .start - headerSize) 0 ++ (f .image +
 -- How many bytes the block takes.
 abbrev pub bytesOf : Fields → ℕ
 bytesOf f = f .start + length (f .image) + 4
-
--- A text that its field can hold: not longer, and nothing but zero behind a zero.
-unfoldable pub textFits : ℕ → List ℕ → Bool
-textFits n text = leb (length text) n && zeroFilled text
-
-unfoldable pub textsFit : List ℕ → List ℕ → List ℕ → List ℕ → Bool
-textsFit model version name date = textFits 16 model && (textFits 16 version && (textFits 128 name && textFits 32 date))
 
 -- The texts of some fields.
 abbrev pub textsIn : Fields → Bool

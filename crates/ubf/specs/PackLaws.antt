@@ -16,8 +16,8 @@ use Rattle.kinds.specs.Kinds.{longestImage}
 use Rattle.kinds.specs.KindsLaws.{image-short}
 use Rattle.kinds.specs.declared.Known.{Known}
 use Rattle.kinds.specs.declared.Known.the-variants.{Is, Unknown}
-use Rattle.ubf.specs.Block.{headerSize, markIn, mark, modelIn, versionIn, nameIn, dateIn, gapIn, filledIn}
-use Rattle.ubf.specs.Pack.{headerPieces, bodyPieces, Fields, filled, headerOf, blockBytes, bytesOf, textFits, textsFit, textsIn, fits}
+use Rattle.ubf.specs.Block.{headerSize, markIn, mark, modelIn, versionIn, nameIn, dateIn, gapIn, textFits, textsFit, filledIn}
+use Rattle.ubf.specs.Pack.{headerPieces, bodyPieces, Fields, filled, headerOf, blockBytes, bytesOf, textsIn, fits}
 
 -- ---- the texts
 
@@ -53,7 +53,7 @@ unfolding filled
 length-filled n text h = let short = fits-field n text h .0 in simp (length-append, length-replicate) (omega arith)
 
 -- A field is filled with zeros.
-pub zero-filled : (n : ℕ) (text : List ℕ) → textFits n text ≡ true → zeroFilled (filled n text) ≡ true
+zero-filled : (n : ℕ) (text : List ℕ) → textFits n text ≡ true → zeroFilled (filled n text) ≡ true
 unfolding filled
 zero-filled n text h = filled-behind text (n - length text) ∙ fits-field n text h .1
 
@@ -63,32 +63,25 @@ unfolding filled
 filled-full n text h = let none : n - length text ≡ 0 = omega arith in rw (none, append-nil)
 
 -- A field that is filled with zeros is a text that fits it.
-pub field-fits : (n : ℕ) (text : List ℕ) → length text ≡ n → zeroFilled text ≡ true → textFits n text ≡ true
+field-fits : (n : ℕ) (text : List ℕ) → length text ≡ n → zeroFilled text ≡ true → textFits n text ≡ true
 unfolding textFits
 field-fits n text h z = rw (le-leb (length text) n (omega arith)) z
 
--- The test of the zeros of a block is the test of each text and of the gap.
-pub record ZerosIn (s : List ℕ) : Type 0 where
-  pub model : zeroFilled (modelIn s) ≡ true
-  pub version : zeroFilled (versionIn s) ≡ true
-  pub name : zeroFilled (nameIn s) ≡ true
-  pub date : zeroFilled (dateIn s) ≡ true
-  pub gap : allZero (gapIn s) ≡ true
+-- A text filled up to its field fits it.
+pub filled-fits : (n : ℕ) (text : List ℕ) → textFits n text ≡ true → textFits n (filled n text) ≡ true
+filled-fits n text h = field-fits n (filled n text) (length-filled n text h) (zero-filled n text h)
 
--- Where the test holds, each part has its zeros.
-pub zeros-of-test : (s : List ℕ) → filledIn s ≡ true → ZerosIn s
+-- The test of the zeros of a block is the test of its texts and of the gap.
+pub filled-of-test : (s : List ℕ) → filledIn s ≡ true
+    → (textsFit (modelIn s) (versionIn s) (nameIn s) (dateIn s) ≡ true) × (allZero (gapIn s) ≡ true)
 unfolding filledIn
-zeros-of-test s h =
-    let first = both (zeroFilled (modelIn s)) _ h in
-    let second = both (zeroFilled (versionIn s)) _ (first .1) in
-    let third = both (zeroFilled (nameIn s)) _ (second .1) in
-    let fourth = both (zeroFilled (dateIn s)) _ (third .1) in
-    record { model = first .0; version = second .0; name = third .0; date = fourth .0; gap = fourth .1 }
+filled-of-test s h = both (textsFit (modelIn s) (versionIn s) (nameIn s) (dateIn s)) (allZero (gapIn s)) h
 
--- Where each part has its zeros, the test holds.
-pub test-of-zeros : (s : List ℕ) → ZerosIn s → filledIn s ≡ true
+-- Where the texts fit and the gap is zeros, the test holds.
+pub test-of-filled : (s : List ℕ) → textsFit (modelIn s) (versionIn s) (nameIn s) (dateIn s) ≡ true → allZero (gapIn s) ≡ true
+    → filledIn s ≡ true
 unfolding filledIn
-test-of-zeros s z = rw (z .model, z .version, z .name, z .date) (z .gap)
+test-of-filled s texts gap = rw texts gap
 
 -- ---- the fields in their places
 

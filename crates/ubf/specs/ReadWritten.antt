@@ -13,8 +13,8 @@ use Rattle.kinds.specs.declared.Kind.{Kind}
 use Rattle.ubf.specs.Block.{headerSize, lengthIn, addressIn, startIn, typeIn, imageIn, checkIn}
 use Rattle.ubf.specs.BlockLaws.{Good, block-of-good}
 use Rattle.ubf.specs.Pack.{Fields, blockBytes, bytesOf, packOf}
-use Rattle.ubf.specs.PackLaws.{texts-of-test, zero-filled, test-of-zeros, FieldsStand, length-block, fields-of-block}
-use Rattle.ubf.specs.Promises.{Packable, ReadWritten, PackWrites}
+use Rattle.ubf.specs.PackLaws.{texts-of-test, test-of-texts, filled-fits, test-of-filled, FieldsStand, length-block, fields-of-block}
+use Rattle.ubf.specs.Promises.{fieldsIn, Packable, ReadWritten, PackWrites}
 
 -- The numbers of a block, where its fields stand in some bytes.
 record NumbersIn (k : Kind) (f : Fields) (s : List ℕ) : Type 0 where
@@ -55,13 +55,12 @@ good-written k f s p t n h =
       sized = rw (n .long) (p .sized);
       behind-header = rw (n .begins) (p .behind-header);
       there = rw (n .begins, n .long) h;
-      filled = test-of-zeros s (record {
-        model = rw (t .model-there) (zero-filled 16 (f .model) (fit .model));
-        version = rw (t .version-there) (zero-filled 16 (f .version) (fit .version));
-        name = rw (t .name-there) (zero-filled 128 (f .name) (fit .name));
-        date = rw (t .date-there) (zero-filled 32 (f .date) (fit .date));
-        gap = rw (n .begins, t .gap-there) (zeros-zero (f .start - headerSize));
-      });
+      filled = test-of-filled s (test-of-texts (fieldsIn s) (record {
+        model = rw (t .model-there) (filled-fits 16 (f .model) (fit .model));
+        version = rw (t .version-there) (filled-fits 16 (f .version) (fit .version));
+        name = rw (t .name-there) (filled-fits 128 (f .name) (fit .name));
+        date = rw (t .date-there) (filled-fits 32 (f .date) (fit .date));
+      })) (rw (n .begins, t .gap-there) (zeros-zero (f .start - headerSize)));
       checked = rw (n .image) (n .check);
     }
 

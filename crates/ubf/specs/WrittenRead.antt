@@ -14,7 +14,7 @@ use Rattle.refusals.specs.Written.{written}
 use Rattle.ubf.specs.Block.{headerSize, lengthIn, addressIn, startIn, modelIn, versionIn, nameIn, dateIn, gapIn, imageIn}
 use Rattle.ubf.specs.BlockLaws.{Good, good-of-block}
 use Rattle.ubf.specs.Pack.{textsIn, blockBytes, packOf}
-use Rattle.ubf.specs.PackLaws.{test-of-texts, filled-full, field-fits, zeros-of-test, FieldsStand, block-of-fields}
+use Rattle.ubf.specs.PackLaws.{filled-full, filled-of-test, FieldsStand, block-of-fields}
 use Rattle.ubf.specs.Promises.{fieldsIn, WrittenRead}
 
 module _ (k : Kind) (s : List ℕ) (g : Good k s) where
@@ -30,18 +30,11 @@ module _ (k : Kind) (s : List ℕ) (g : Good k s) where
   gap-zeros : gapIn s ≡ replicate (startIn s - headerSize) 0
   gap-zeros =
       let long = length-part s headerSize (startIn s - headerSize) (omega arith) in
-      zeros-of-zero (gapIn s) (zeros-of-test s (g .filled) .gap) ∙ ap (λ (n : ℕ). replicate n 0) long
+      zeros-of-zero (gapIn s) (filled-of-test s (g .filled) .1) ∙ ap (λ (n : ℕ). replicate n 0) long
 
   -- The texts of a block that was read fit their fields.
   texts-fit : textsIn (fieldsIn s) ≡ true
-  texts-fit =
-      let z = zeros-of-test s (g .filled) in
-      test-of-texts (fieldsIn s) (record {
-        model = field-fits 16 (modelIn s) (text-long 0x10 16 (omega arith)) (z .model);
-        version = field-fits 16 (versionIn s) (text-long 0x20 16 (omega arith)) (z .version);
-        name = field-fits 128 (nameIn s) (text-long 0x30 128 (omega arith)) (z .name);
-        date = field-fits 32 (dateIn s) (text-long 0xB0 32 (omega arith)) (z .date);
-      })
+  texts-fit = filled-of-test s (g .filled) .0
 
   -- Each field that was read stands where it was read.
   fields-stand : Bytes s → FieldsStand (fieldsIn s) s

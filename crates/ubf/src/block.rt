@@ -1,21 +1,8 @@
 // One block at the front of some bytes: its fields, and its texts and image as parts of those bytes.
 ghost use mathlib.Core.Path.{_≡_};
 ghost use Prim.Native.Nat.{_-_, _<_};
-ghost use Rattle.octets.specs.Octets.{sameBytes, partOf, zeroFilled, xorWords};
-ghost use Rattle.ubf.specs.Block.{
-  headerSize,
-  markIn,
-  mark,
-  startIn,
-  modelIn,
-  versionIn,
-  nameIn,
-  dateIn,
-  filledIn,
-  sizeOf,
-  kindBlock,
-  blockOf,
-};
+ghost use Rattle.octets.specs.Octets.{sameBytes, partOf, xorWords};
+ghost use Rattle.ubf.specs.Block.{headerSize, markIn, mark, startIn, modelIn, versionIn, nameIn, dateIn, textFits, textsFit, filledIn, sizeOf, kindBlock, blockOf};
 use kinds::Kind;
 use kinds::Known;
 
@@ -133,25 +120,35 @@ fn filled(s: &[u8], gap: usize) -> bool
     requires { ⌜ gap ≡ startIn (now s) - headerSize ⌝ }
     ensures { λ r. ⌜ r ≡ filledIn (now (s .entry)) ⌝ }
 {
-    if !zero_filled_part(s, 0x10, 16) {
-        return false;
-    }
-    if !zero_filled_part(s, 0x20, 16) {
-        return false;
-    }
-    if !zero_filled_part(s, 0x30, 128) {
-        return false;
-    }
-    if !zero_filled_part(s, 0xB0, 32) {
+    if !texts_fit(model(s), version(s), file_name(s), date(s)) {
         return false;
     }
     octets::zeros(octets::part(s, 0xD0, gap))
 }
 
-fn zero_filled_part(s: &[u8], at: usize, n: usize) -> bool
-    ensures { λ r. ⌜ r ≡ zeroFilled (partOf (now (s .entry)) at n) ⌝ }
+pub(crate) fn texts_fit(model: &[u8], version: &[u8], name: &[u8], date: &[u8]) -> bool
+    ensures { λ r. ⌜ r ≡ textsFit (now (model .entry)) (now (version .entry)) (now (name .entry)) (now (date .entry)) ⌝ }
 {
-    octets::zero_filled(octets::part(s, at, n))
+    if !text_fits(model, 16) {
+        return false;
+    }
+    if !text_fits(version, 16) {
+        return false;
+    }
+    if !text_fits(name, 128) {
+        return false;
+    }
+    text_fits(date, 32)
+}
+
+// Whether a field of n bytes can hold a text.
+fn text_fits(text: &[u8], n: usize) -> bool
+    ensures { λ r. ⌜ r ≡ textFits n (now (text .entry)) ⌝ }
+{
+    if n < text.len() {
+        return false;
+    }
+    octets::zero_filled(text)
 }
 
 fn xor_of_part(s: &[u8], at: usize, n: usize) -> u32

@@ -9,12 +9,11 @@ ghost use Rattle.ubf.specs.Pack.{
   filled,
   headerPieces,
   HeaderRoom,
-  textFits,
-  textsFit,
   pairs,
   fits,
   packOf,
 };
+use crate::block::texts_fit;
 use crate::block::wide;
 use kinds::Known;
 use refusals::Written;
@@ -81,31 +80,6 @@ fn image_fits(number: u16, length: usize) -> bool
         Known::Is(kind) => kinds::fits_file(kind, length),
         Known::Unknown => false,
     }
-}
-
-fn texts_fit(model: &[u8], version: &[u8], name: &[u8], date: &[u8]) -> bool
-    ensures { λ r. ⌜ r ≡ textsFit (now (model .entry)) (now (version .entry)) (now (name .entry)) (now (date .entry)) ⌝ }
-{
-    if !text_fits(model, 16) {
-        return false;
-    }
-    if !text_fits(version, 16) {
-        return false;
-    }
-    if !text_fits(name, 128) {
-        return false;
-    }
-    text_fits(date, 32)
-}
-
-// Whether a field of n bytes can hold a text.
-fn text_fits(text: &[u8], n: usize) -> bool
-    ensures { λ r. ⌜ r ≡ textFits n (now (text .entry)) ⌝ }
-{
-    if n < text.len() {
-        return false;
-    }
-    octets::zero_filled(text)
 }
 
 // Every field of the header at its offset.

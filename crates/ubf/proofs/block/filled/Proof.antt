@@ -1,56 +1,35 @@
--- `ubf::filled`: the tests in the order of the definition; each that fails decides.
-use mathlib.Core.Path.{ap, _∙_}
+-- `ubf::filled`: the texts as they stand in the block, then the gap.
+use mathlib.Core.Path.{_≡_, ap, _∙_}
 use Rattle.octets.specs.Choice.{passed, failed}
 use Rattle.octets.specs.Octets.{allZero, partOf}
-use Rattle.ubf.specs.Block.{filledIn}
+use Rattle.ubf.specs.Block.{modelIn, versionIn, nameIn, dateIn, textsFit, filledIn}
 use borrow.Author.Needs.{needs}
 use Rattle.ubf.proofs.block.filled.Statement.{statement}
 use Rattle.ubf.proofs.block.filled.Tie as tie
 
-zero-filled-part-requires : tie.Need-zero-filled-part-requires
-zero-filled-part-requires c κs = search needs
+-- The texts that are tested are those of the block.
+texts-are : (c : tie.After-texts-fit) → c .texts-fit .result ≡ textsFit (modelIn (c .before .before .before .before .before .before .args .s .now)) (versionIn (c .before .before .before .before .before .before .args .s .now)) (nameIn (c .before .before .before .before .before .before .args .s .now)) (dateIn (c .before .before .before .before .before .before .args .s .now))
+texts-are c =
+    c .texts-fit .ensures ∙ rw (c .before .before .before .before .model .ensures, c .before .before .before .version .ensures, c .before .before .file-name .ensures, c .before .date .ensures)
+
+model-requires : tie.Need-model-requires
+model-requires c κs = search needs
+
+version-requires : tie.Need-version-requires
+version-requires c κs = search needs
+
+file-name-requires : tie.Need-file-name-requires
+file-name-requires c κs = search needs
+
+date-requires : tie.Need-date-requires
+date-requires c κs = search needs
+
+texts-fit-requires : tie.Need-texts-fit-requires
+texts-fit-requires c κs = search needs
 
 returns : tie.Need-returns
 unfolding filledIn
-returns c =
-    rw
-    (failed (c .before .zero-filled-part .ensures) (c .if1 .taken))
-
-zero-filled-part-requires-2 : tie.Need-zero-filled-part-requires-2
-zero-filled-part-requires-2 c κs = search needs
-
-returns-2 : tie.Need-returns-2
-unfolding filledIn
-returns-2 c =
-    rw (
-      passed (c .before .before .before .zero-filled-part .ensures) (c .before .before .if1 .left),
-      failed (c .before .zero-filled-part2 .ensures) (c .if2 .taken),
-    )
-
-zero-filled-part-requires-3 : tie.Need-zero-filled-part-requires-3
-zero-filled-part-requires-3 c κs = search needs
-
-returns-3 : tie.Need-returns-3
-unfolding filledIn
-returns-3 c =
-    rw (
-      passed (c .before .before .before .before .before .zero-filled-part .ensures) (c .before .before .before .before .if1 .left),
-      passed (c .before .before .before .zero-filled-part2 .ensures) (c .before .before .if2 .left),
-      failed (c .before .zero-filled-part3 .ensures) (c .if3 .taken),
-    )
-
-zero-filled-part-requires-4 : tie.Need-zero-filled-part-requires-4
-zero-filled-part-requires-4 c κs = search needs
-
-returns-4 : tie.Need-returns-4
-unfolding filledIn
-returns-4 c =
-    rw (
-      passed (c .before .before .before .before .before .before .before .zero-filled-part .ensures) (c .before .before .before .before .before .before .if1 .left),
-      passed (c .before .before .before .before .before .zero-filled-part2 .ensures) (c .before .before .before .before .if2 .left),
-      passed (c .before .before .before .zero-filled-part3 .ensures) (c .before .before .if3 .left),
-      failed (c .before .zero-filled-part4 .ensures) (c .if4 .taken),
-    )
+returns c = rw (failed (texts-are (c .before)) (c .if1 .taken))
 
 part-requires : tie.Need-part-requires
 part-requires c κs = search needs
@@ -58,30 +37,23 @@ part-requires c κs = search needs
 zeros-requires : tie.Need-zeros-requires
 zeros-requires c κs = search needs
 
-returns-5 : tie.Need-returns-5
+returns-2 : tie.Need-returns-2
 unfolding filledIn
-returns-5 c =
-    let s = c .before .before .before .before .before .before .before .before .before .before .before .args .s .now in
-    rw (
-      passed (c .before .before .before .before .before .before .before .before .before .zero-filled-part .ensures) (c .before .before .before .before .before .before .before .before .if1 .left),
-      passed (c .before .before .before .before .before .before .before .zero-filled-part2 .ensures) (c .before .before .before .before .before .before .if2 .left),
-      passed (c .before .before .before .before .before .zero-filled-part3 .ensures) (c .before .before .before .before .if3 .left),
-      passed (c .before .before .before .zero-filled-part4 .ensures) (c .before .before .if4 .left),
-    )
-    (c .zeros .ensures ∙ ap allZero (c .before .part .ensures ∙ ap (partOf s 0xD0) (c .before .before .before .before .before .before .before .before .before .before .before .pre)))
+returns-2 c =
+    let s = c .before .before .before .before .before .before .before .before .before .args .s .now in
+    rw (passed (texts-are (c .before .before .before)) (c .before .before .if1 .left))
+    (c .zeros .ensures ∙ ap allZero (c .before .part .ensures ∙ ap (partOf s 0xD0) (c .before .before .before .before .before .before .before .before .before .pre)))
 
 pub filled-spec : {M : Type 1} → statement M
 filled-spec =
     tie.close
     (tie.spec
-    zero-filled-part-requires
+    model-requires
+    version-requires
+    file-name-requires
+    date-requires
+    texts-fit-requires
     returns
-    zero-filled-part-requires-2
-    returns-2
-    zero-filled-part-requires-3
-    returns-3
-    zero-filled-part-requires-4
-    returns-4
     part-requires
     zeros-requires
-    returns-5)
+    returns-2)

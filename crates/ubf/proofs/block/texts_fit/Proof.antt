@@ -1,9 +1,9 @@
 -- `ubf::texts_fit`: the four texts in order; each that fails decides.
 use Rattle.octets.specs.Choice.{passed, failed}
-use Rattle.ubf.specs.Pack.{textsFit}
+use Rattle.ubf.specs.Block.{textsFit}
 use borrow.Author.Needs.{needs}
-use Rattle.ubf.proofs.pack.texts_fit.Statement.{statement}
-use Rattle.ubf.proofs.pack.texts_fit.Tie as tie
+use Rattle.ubf.proofs.block.texts_fit.Statement.{statement}
+use Rattle.ubf.proofs.block.texts_fit.Tie as tie
 
 text-fits-requires : tie.Need-text-fits-requires
 text-fits-requires c κs = search needs

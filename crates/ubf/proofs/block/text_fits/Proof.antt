@@ -1,9 +1,9 @@
 -- `ubf::text_fits`: the length, then the zeros.
 use borrow.Author.Tests.{le-leb, lt-leb}
-use Rattle.ubf.specs.Pack.{textFits}
+use Rattle.ubf.specs.Block.{textFits}
 use borrow.Author.Needs.{needs}
-use Rattle.ubf.proofs.pack.text_fits.Statement.{statement}
-use Rattle.ubf.proofs.pack.text_fits.Tie as tie
+use Rattle.ubf.proofs.block.text_fits.Statement.{statement}
+use Rattle.ubf.proofs.block.text_fits.Tie as tie
 
 returns : tie.Need-returns
 unfolding textFits
