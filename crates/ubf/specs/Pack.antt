@@ -1,12 +1,11 @@
 -- Writing one block.
-use Prim.Native.Nat.{ℕ, _+_, _-_, _≤_}
-use mathlib.Core.Bool.{Bool, true, false, cond}
+use Prim.Native.Nat.{ℕ, _+_, _-_}
+use mathlib.Core.Bool.{Bool, false, cond}
 use mathlib.Core.List.{List, [], _∷_, _++_}
-use mathlib.Core.Path.{_≡_}
 use lib.Dec.{eqb, leb}
 use lib.ListN.{length, replicate}
-use Rattle.octets.specs.Octets.{spelled, xorWords, Pieces}
-use Rattle.kinds.specs.Kinds.{kindOf, baseOf, fitsFile, longestImage}
+use Rattle.octets.specs.Octets.{spelled, xorWords, Pieces, endToEnd}
+use Rattle.kinds.specs.Kinds.{kindOf, baseOf, fitsFile}
 use Rattle.kinds.specs.declared.Known.{Known}
 use Rattle.kinds.specs.declared.Known.the-variants.{Is, Unknown}
 use Rattle.refusals.specs.Refusals.{noRoom, wrongType, wrongStart, wrongImageLength, notZeroFilled}
@@ -25,6 +24,7 @@ pub record Fields : Type 0 where
   pub date : List ℕ
   pub image : List ℕ
 
+-- The fields that a call is given.
 abbrev pub gathered : Numbers → List ℕ → List ℕ → List ℕ → List ℕ → List ℕ → Fields
 gathered numbers model version name date image = record {
   number = numbers .number;
@@ -41,20 +41,7 @@ gathered numbers model version name date image = record {
 unfoldable pub filled : ℕ → List ℕ → List ℕ
 filled n text = text ++ replicate (n - length text) 0
 
--- The header: every field at its offset.
-unfoldable pub headerOf : Fields → List ℕ
-headerOf f =
-    mark
-    ++ (spelled 4 (length (f .image))
-    ++ (spelled 4 (f .address)
-    ++ (spelled 4 (f .start)
-    ++ (spelled 2 (f .number)
-    ++ (filled 16 (f .model)
-    ++ (filled 16 (f .version)
-    ++ (filled 128 (f .name)
-    ++ filled 32 (f .date))))))))
-
--- The same as pieces with their sizes, which stand from the block's front on.
+-- The header: its fields with their sizes, from the block's front on; so each stands at its offset.
 abbrev pub headerPieces : Fields → Pieces
 headerPieces f =
     (2, mark)
@@ -68,7 +55,7 @@ headerPieces f =
     ∷ (32, filled 32 (f .date))
     ∷ []
 
--- What follows the header: zeros up to the start, the image, its check.
+-- Behind it zeros up to the start, the image, its check.
 abbrev pub bodyPieces : Fields → Pieces
 bodyPieces f =
     (f .start - headerSize, replicate (f .start - headerSize) 0)
@@ -76,9 +63,12 @@ bodyPieces f =
     ∷ (4, spelled 4 (xorWords (f .image)))
     ∷ []
 
--- The block: header, zeros up to the start, image, check.
+-- The block: all these end to end.
+abbrev pub piecesOf : Fields → Pieces
+piecesOf f = headerPieces f ++ bodyPieces f
+
 unfoldable pub blockBytes : Fields → List ℕ
-blockBytes f = headerOf f ++ (replicate (f .start - headerSize) 0 ++ (f .image ++ spelled 4 (xorWords (f .image))))
+blockBytes f = endToEnd (piecesOf f)
 
 -- How many bytes the block takes.
 abbrev pub bytesOf : Fields → ℕ
@@ -88,6 +78,7 @@ bytesOf f = f .start + length (f .image) + 4
 abbrev pub textsIn : Fields → Bool
 textsIn f = textsFit (f .model) (f .version) (f .name) (f .date)
 
+-- A known type has its own address, and may have an image that fits.
 abbrev pub pairs : Known → ℕ → Bool
 pairs (Is k) address = eqb address (baseOf k)
 pairs Unknown address = false
@@ -108,9 +99,3 @@ packOf f output =
     (unlessOut (textsIn f) notZeroFilled output
     (unlessOut (leb (bytesOf f) (length output)) noRoom output
     (written (blockBytes f) output)))))
-
--- What laying a header asks: texts that fit, a length that four bytes spell, and room.
-pub record HeaderRoom (f : Fields) (output : List ℕ) : Type 0 where
-  pub texts : textsIn f ≡ true
-  pub spelled-length : length (f .image) ≤ longestImage
-  pub room : headerSize ≤ length output

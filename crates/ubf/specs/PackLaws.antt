@@ -1,14 +1,14 @@
 -- The laws of writing: a block is its fields, each standing at its place.
 use Prim.Native.Nat.{ℕ, _+_, _-_, _≤_}
 use mathlib.Core.Bool.{true, false≢true}
-use mathlib.Core.List.{List, [], _++_, append-assoc, append-nil}
+use mathlib.Core.List.{List, [], _++_, append-nil}
 use mathlib.Core.Path.{_≡_, refl, sym, ap, _∙_}
 use native.Mathlib.Omega.{arith}
 use borrow.Author.Tests.{le-leb, leb-true}
 use lib.Dec.{leb}
 use lib.ListN.{length, take, replicate, length-append, length-replicate}
 use Rattle.octets.specs.Choice.{both}
-use Rattle.octets.specs.Octets.{spelled, partOf, allZero, zeroFilled, xorWords, laid, over, Pieces, endToEnd, layAll}
+use Rattle.octets.specs.Octets.{spelled, partOf, allZero, zeroFilled, xorWords, laid, over, endToEnd, layAll}
 use Rattle.octets.specs.OctetsLaws.{length-spelled, over-nil}
 use Rattle.octets.specs.PartLaws.{sizeOfAll, Sized, StandAt, _also_}
 use Rattle.octets.specs.PartLaws.{lay-all, stand-of-laid, laid-of-stand, length-laid, filled-behind}
@@ -17,7 +17,7 @@ use Rattle.kinds.specs.KindsLaws.{image-short}
 use Rattle.kinds.specs.declared.Known.{Known}
 use Rattle.kinds.specs.declared.Known.the-variants.{Is, Unknown}
 use Rattle.ubf.specs.Block.{headerSize, markIn, mark, modelIn, versionIn, nameIn, dateIn, gapIn, textFits, textsFit, filledIn}
-use Rattle.ubf.specs.Pack.{headerPieces, bodyPieces, Fields, filled, headerOf, blockBytes, bytesOf, textsIn, fits}
+use Rattle.ubf.specs.Pack.{headerPieces, bodyPieces, piecesOf, Fields, filled, blockBytes, bytesOf, textsIn, fits}
 
 -- ---- the texts
 
@@ -100,14 +100,10 @@ pub record FieldsStand (f : Fields) (s : List ℕ) : Type 0 where
   pub image-there : partOf s (f .start) (length (f .image)) ≡ f .image
   pub check-there : partOf s (f .start + length (f .image)) 4 ≡ spelled 4 (xorWords (f .image))
 
--- The pieces of a block, in their order.
-abbrev piecesOf : Fields → Pieces
-piecesOf f = headerPieces f ++ bodyPieces f
-
 -- A block is its pieces end to end.
 block-laid : (f : Fields) → blockBytes f ≡ endToEnd (piecesOf f)
-unfolding blockBytes headerOf
-block-laid f = simp (append-assoc, append-nil)
+unfolding blockBytes
+block-laid f = refl
 
 -- Together they are as long as the block is said to be.
 pieces-together : (f : Fields) → headerSize ≤ f .start → sizeOfAll (piecesOf f) ≡ bytesOf f
@@ -188,6 +184,12 @@ block-of-fields f s h t =
     ∙ ap (λ (n : ℕ). take n s) (pieces-together f h)
 
 -- ---- what the writer lays adds up to the block
+
+-- What laying a header asks: texts that fit, a length that four bytes spell, and room.
+pub record HeaderRoom (f : Fields) (output : List ℕ) : Type 0 where
+  pub texts : textsIn f ≡ true
+  pub spelled-length : length (f .image) ≤ longestImage
+  pub room : headerSize ≤ length output
 
 -- Every piece laid at its place is the block written over the front of the output.
 pub block-built : (f : Fields) (out : List ℕ) → headerSize ≤ f .start → textsIn f ≡ true → bytesOf f ≤ length out

@@ -8,11 +8,11 @@ ghost use Rattle.ubf.specs.Pack.{
   gathered,
   filled,
   headerPieces,
-  HeaderRoom,
   pairs,
   fits,
   packOf,
 };
+ghost use Rattle.ubf.specs.PackLaws.{HeaderRoom};
 use crate::block::texts_fit;
 use crate::block::wide;
 use kinds::Known;
