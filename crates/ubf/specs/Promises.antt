@@ -1,5 +1,5 @@
 -- What UBF files promise, to be read without the proofs. Each statement is proved in the file named beside it.
-use Prim.Native.Nat.{ℕ, _+_, _^_, _≤_, _<_}
+use Prim.Native.Nat.{ℕ, _+_, _-_, _^_, _≤_, _<_}
 use mathlib.Core.Bool.{true}
 use mathlib.Core.List.{List, [], _∷_, _++_}
 use mathlib.Core.Path.{_≡_}
@@ -69,13 +69,14 @@ LaidOut file from [] end = from ≡ end
 LaidOut file from (b ∷ bs) end =
     (b .place ≡ from) × (blockOf (drop from file) ≡ Whole (b .block)) × LaidOut file (from + sizeOf (b .block)) bs end
 
--- A walk that ends with the file has laid out all of it; one that ends at a fault has laid out all before it, and there the block
--- is refused with that number.
-abbrev pub EndsAt : List ℕ → List Standing → Ending → Type 0
-EndsAt file bs whole = LaidOut file 0 bs (length file)
-EndsAt file bs (fault number place) = LaidOut file 0 bs place × (blockOf (drop place file) ≡ Refused number)
+-- A walk from a place on that ends with the file has laid out all of it, and the file is not empty. One that ends at a fault has
+-- laid out all before it, the block there is refused with that number, and bytes of the file stand there unless it is empty.
+abbrev pub EndsFrom : List ℕ → ℕ → List Standing → Ending → Type 0
+EndsFrom file from bs whole = LaidOut file from bs (length file) × (0 < length file)
+EndsFrom file from bs (fault number place) =
+    LaidOut file from bs place × (blockOf (drop place file) ≡ Refused number) × (place ≤ length file - 1)
 
 -- U2 (Laid.antt). The walk's blocks, laid end to end, are the file; or the first faulty block's number and place are given, and the
--- blocks before it are right.
+-- blocks before it are right. No good file is called faulty at its end, and an empty one is not whole.
 abbrev pub WalkLaid : Type 0
-WalkLaid = (file : List ℕ) → EndsAt file (walkOf file .blocks) (walkOf file .ending)
+WalkLaid = (file : List ℕ) → EndsFrom file 0 (walkOf file .blocks) (walkOf file .ending)
