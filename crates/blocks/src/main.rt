@@ -60,13 +60,7 @@ fn list_block(file: &[u8], n: usize) -> bool {
 fn show_block(n: usize, block: Block, bytes: &[u8]) {
     show_place(n);
     let kind = block.kind;
-    console::kind(kind);
-    console::say(b", address ");
-    console::word(kinds::base_of(kind));
-    console::say(b", length ");
-    console::number(block.length as usize);
-    console::say(b", start ");
-    console::number(block.start as usize);
+    console::placed(kind, block.length, block.start);
     console::say(b", model ");
     console::text(ubf::model(bytes));
     console::say(b", version ");

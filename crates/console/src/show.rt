@@ -22,12 +22,23 @@ pub fn refusal(number: u8) {
 }
 
 // A type in words.
-pub fn kind(kind: Kind) {
+fn kind(kind: Kind) {
     match kind {
         Kind::Navigation => say(b"navigation code"),
         Kind::Upgrade => say(b"upgrade code"),
         Kind::Parameters => say(b"working parameters"),
     }
+}
+
+// Where an image goes and where it stands in its block.
+pub fn placed(image: Kind, length: u32, start: u32) {
+    kind(image);
+    say(b", address ");
+    word(kinds::base_of(image));
+    say(b", length ");
+    number(length as usize);
+    say(b", start ");
+    number(start as usize);
 }
 
 // A number of four bytes in hex, high byte first, as people write it.

@@ -155,13 +155,7 @@ fn show(found: Found) {
         Found::Refused(number) => console::refusal(number),
         Found::Whole(block) => {
             let kind = block.kind;
-            console::kind(kind);
-            console::say(b", address ");
-            console::word(kinds::base_of(kind));
-            console::say(b", length ");
-            console::number(block.length as usize);
-            console::say(b", start ");
-            console::number(block.start as usize);
+            console::placed(kind, block.length, block.start);
             console::say(b", check ");
             console::word(block.check);
         }
