@@ -1,5 +1,5 @@
 -- The three types of image as document 01 has them. Their names are those of document 001's table of types.
-use Prim.Native.Nat.{ℕ, _%_}
+use Prim.Native.Nat.{ℕ, _+_, _%_}
 use mathlib.Core.Bool.{Bool, cond, _&&_}
 use lib.Dec.{eqb, leb}
 use Rattle.kinds.specs.declared.Kind.{Kind}
@@ -35,3 +35,7 @@ longestImage = 262143
 -- A file carries images of 1 to 262,143 bytes, a multiple of 4.
 unfoldable pub fitsFile : Kind → ℕ → Bool
 fitsFile k n = leb 1 n && (leb n longestImage && eqb (n % 4) 0)
+
+-- A flash takes images of 1 to 262,143 bytes that end within it.
+unfoldable pub fitsFlash : Kind → ℕ → ℕ → Bool
+fitsFlash k n flash = leb 1 n && (leb n longestImage && leb (baseOf k + n) flash)

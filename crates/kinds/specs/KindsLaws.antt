@@ -1,12 +1,12 @@
 -- The laws of Kinds.
-use Prim.Native.Nat.{ℕ, _^_, _≤_, _<_}
+use Prim.Native.Nat.{ℕ, _+_, _^_, _≤_, _<_}
 use mathlib.Core.Bool.{true}
 use mathlib.Core.Path.{_≡_, refl}
 use native.Mathlib.Omega.{arith}
-use borrow.Author.Tests.{leb-true}
+use borrow.Author.Tests.{leb-true, le-leb}
 use lib.Dec.{leb}
 use Rattle.octets.specs.Choice.{both}
-use Rattle.kinds.specs.Kinds.{kindOf, numberOf, baseOf, fitsFile, longestImage}
+use Rattle.kinds.specs.Kinds.{kindOf, numberOf, baseOf, fitsFile, fitsFlash, longestImage}
 use Rattle.kinds.specs.declared.Kind.{Kind}
 use Rattle.kinds.specs.declared.Kind.the-variants.{Navigation, Upgrade, Parameters}
 use Rattle.kinds.specs.declared.Known.the-variants.{Is}
@@ -28,3 +28,27 @@ kind-spelled Parameters = omega arith
 pub image-short : (k : Kind) (n : ℕ) → fitsFile k n ≡ true → n ≤ longestImage
 unfolding fitsFile
 image-short k n h = leb-true n longestImage (both (leb n longestImage) _ (both (leb 1 n) _ h .1) .0)
+
+-- No kind's address lies behind 0x3E000.
+pub base-short : (k : Kind) → baseOf k ≤ 0x3E000
+base-short Navigation = omega arith
+base-short Upgrade = omega arith
+base-short Parameters = omega arith
+
+-- An image fits a flash: it is not empty, not too long, and ends within the flash.
+pub record FitsFlash (k : Kind) (n flash : ℕ) : Type 0 where
+  pub some : 1 ≤ n
+  pub short : n ≤ longestImage
+  pub inside : baseOf k + n ≤ flash
+
+-- The test says just these three facts.
+pub fits-flash : (k : Kind) (n flash : ℕ) → fitsFlash k n flash ≡ true → FitsFlash k n flash
+unfolding fitsFlash
+fits-flash k n flash h =
+    let first = both (leb 1 n) _ h in
+    let rest = both (leb n longestImage) _ (first .1) in
+    record { some = leb-true 1 n (first .0); short = leb-true n longestImage (rest .0); inside = leb-true (baseOf k + n) flash (rest .1) }
+
+pub flash-fits : (k : Kind) (n flash : ℕ) → FitsFlash k n flash → fitsFlash k n flash ≡ true
+unfolding fitsFlash
+flash-fits k n flash f = rw (le-leb 1 n (f .some), le-leb n longestImage (f .short), le-leb (baseOf k + n) flash (f .inside))

@@ -1,6 +1,6 @@
 // The three types of image: their numbers, flash addresses, command tokens, and what fits where. No other crate knows them.
 ghost use mathlib.Core.Path.{_≡_};
-ghost use Rattle.kinds.specs.Kinds.{kindOf, numberOf, baseOf, tokenOf, fitsFile};
+ghost use Rattle.kinds.specs.Kinds.{kindOf, numberOf, baseOf, tokenOf, fitsFile, fitsFlash};
 
 pub enum Kind {
     Navigation,
@@ -69,4 +69,17 @@ pub fn fits_file(kind: Kind, length: usize) -> bool
         return false;
     }
     length % 4 == 0
+}
+
+// Whether an image of this length, laid at the kind's address, lies within a flash.
+pub fn fits_flash(kind: Kind, length: usize, flash: usize) -> bool
+    ensures { λ r. ⌜ r ≡ fitsFlash kind length flash ⌝ }
+{
+    if length == 0 {
+        return false;
+    }
+    if length > 262143 {
+        return false;
+    }
+    base_of(kind) as usize + length <= flash
 }
