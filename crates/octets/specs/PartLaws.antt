@@ -3,6 +3,7 @@ use Prim.Native.Nat.{ℕ, zero, suc, _+_, _^_, _≤_, _<_}
 use mathlib.Core.Bool.{Bool, true, _&&_}
 use mathlib.Core.List.{List, [], _∷_, _++_, append-assoc, append-nil}
 use mathlib.Core.Path.{_≡_, refl, sym, ap, ap₂, _∙_}
+use native.Mathlib.Nat.{pow-suc}
 use native.Mathlib.Omega.{arith}
 use borrow.Author.Tests.{eqb-true}
 use lib.Bits.{bitXor, xor-lt}
@@ -96,6 +97,17 @@ number-of-part s at n x fits e = ap little e ∙ little-spelled n x fits
 pub part-of-number : (s : List ℕ) (at n : ℕ) → Bytes s → at + n ≤ length s → partOf s at n ≡ spelled n (numberAt n s at)
 unfolding partOf numberAt
 part-of-number s at n b h = sym (rw (length-part s at n h) at (spelled-little (partOf s at n) (bytes-part s at n b)))
+
+-- So many bytes spell a number that they have room for.
+pub little-short : (n : ℕ) (bs : List ℕ) → Bytes bs → little (take n bs) < 256 ^ n
+unfolding little
+little-short zero bs h = omega arith
+little-short (suc n) [] h = rw pow-suc (omega (arith, little-short n [] tt))
+little-short (suc n) (b ∷ bs) h = rw pow-suc (omega (arith, h .0, little-short n bs (h .1)))
+
+pub number-short : (n : ℕ) (s : List ℕ) (at : ℕ) → Bytes s → numberAt n s at < 256 ^ n
+unfolding numberAt
+number-short n s at h = little-short n (drop at s) (bytes-drop at s h)
 
 -- ---- zeros
 

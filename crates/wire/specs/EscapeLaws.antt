@@ -1,11 +1,13 @@
 -- The laws of the escape. What stands above cites these and never the pairs themselves.
-use Prim.Native.Nat.{ℕ, _<_}
+use Prim.Native.Nat.{ℕ, _*_, _≤_, _<_}
 use mathlib.Core.Bool.{Bool, true, false, _||_, false≢true, true≢false}
 use mathlib.Core.List.{List, [], _∷_, _++_, append-assoc, append-nil}
 use mathlib.Core.Path.{_≡_, refl, _∙_}
 use native.Mathlib.Omega.{arith}
 use borrow.Author.Tests.{eqb-true}
 use lib.Dec.{eqb}
+use lib.ListN.{length, length-append}
+use Rattle.octets.specs.Choice.{either-way}
 use Rattle.wire.specs.Escape.{headMark, escapeMark, tailMark, isMark, secondOf, mayFollow, originalOf, escapeOf, escaped}
 
 -- Where neither of two tests holds, the first does not.
@@ -111,3 +113,13 @@ escaped-append (x ∷ xs) ys = rw (escaped-append xs ys, append-assoc)
 pub escaped-snoc : (xs : List ℕ) (b : ℕ) → escaped (xs ++ (b ∷ [])) ≡ escaped xs ++ escapeOf b
 unfolding escaped
 escaped-snoc xs b = escaped-append xs (b ∷ []) ∙ rw append-nil
+
+-- A content byte takes one byte or two on the wire, so content at most doubles.
+pub escape-size : (b : ℕ) → length (escapeOf b) ≤ 2
+unfolding escapeOf
+escape-size b = either-way (λ (l : List ℕ). length l ≤ 2) (isMark b) (λ e. omega arith) (λ e. omega arith)
+
+pub escaped-size : (s : List ℕ) → length (escaped s) ≤ 2 * length s
+unfolding escaped
+escaped-size [] = omega arith
+escaped-size (b ∷ s) = rw length-append (omega (arith, escape-size b, escaped-size s))
