@@ -1,0 +1,144 @@
+-- M4: the idle sum, what is refused, what is closed.
+use Prim.Native.Nat.{ℕ, _+_, _-_, _≤_, _<_}
+use mathlib.Core.Bool.{Bool, true, false, cond, false≢true}
+use mathlib.Core.List.{List, [], _∷_, List·Memᴰ, List·Memᴰ·head}
+use mathlib.Core.Path.{_≡_, refl, sym, ap, _∙_}
+use native.Mathlib.Omega.{arith}
+use borrow.Author.Tests.{le-leb, lt-leb, leb-true, leb-false}
+use lib.Dec.{eqb, leb}
+use lib.ListN.{length}
+use Rattle.octets.specs.Choice.{either-way}
+use Rattle.module.specs.Session.{longestIdle, session, stepped, totalOf, takes, held, isClosed}
+use Rattle.module.specs.SessionLaws.{takes-facts}
+use Rattle.octets.specs.Octets.{Bytes}
+use Rattle.wire.specs.Frame as wire
+use Rattle.module.specs.Rules.{restartCommand, restartReply, accepted, framesOf, phaseAt, decideOf}
+use Rattle.module.specs.Step.{Left, left, timeStep, answerOf}
+use Rattle.module.specs.Runs.{Given, exchange, nextOf, isRefused, payloadOf}
+use Rattle.module.specs.RunsLaws.{step-taken, heard-performed}
+use Rattle.module.specs.Outcomes.{Outcome, stays, restarts, begins, advances, repeats, Step, refuses, sleeps, waits, hears, step-of, outcome-of}
+use Rattle.module.specs.Promises.{Closes, idle, restart, Idle, IdleRule, RefusedLeaves, ClosedLeaves}
+use Rattle.module.specs.declared.session.Pieces.{Pieces}
+use Rattle.module.specs.declared.session.Phase.{Phase}
+use Rattle.module.specs.declared.session.Phase.the-variants.{Closed, Ready, Begun, Loading, Done}
+use Rattle.module.specs.declared.session.Session.{Session}
+use Rattle.module.specs.declared.session.Stepped.{Stepped}
+use Rattle.module.specs.declared.session.Event.{Event}
+use Rattle.module.specs.declared.session.Event.the-variants.{Frame, Elapsed}
+use Rattle.module.specs.declared.session.Answer.{Answer}
+use Rattle.module.specs.declared.session.Answer.the-variants.{Nothing, Sent, Refused}
+use Rattle.module.specs.declared.rules.Decision.{Decision}
+
+-- ---- time
+
+-- A sum of up to 7,000 is kept.
+time-stays : (s : Session) (ms : ℕ) → s .idle + ms ≤ 7000 → timeStep s ms ≡ stepped (session (s .flash) (s .idle + ms) (s .phase)) Nothing
+unfolding timeStep
+time-stays s ms h = rw (le-leb ms (longestIdle - s .idle) (omega arith))
+
+-- A sum over it closes.
+time-closes : (s : Session) (ms : ℕ) → s .idle ≤ 7000 → 7000 < s .idle + ms → timeStep s ms ≡ stepped (session (s .flash) 7001 Closed) Nothing
+unfolding timeStep
+time-closes s ms a h = rw (lt-leb ms (longestIdle - s .idle) (omega arith))
+
+-- Time answers nothing, and closes only with a sum over 7,000.
+time-answer : (s : Session) (ms : ℕ) → timeStep s ms .answer ≡ Nothing
+unfolding timeStep
+time-answer s ms = either-way (λ (r : Stepped). r .answer ≡ Nothing) (leb ms (longestIdle - s .idle)) (λ e. refl) (λ e. refl)
+
+time-only : (s : Session) (ms : ℕ) → isClosed (s .phase) ≡ false → isClosed (timeStep s ms .session .phase) ≡ true → 7000 < s .idle + ms
+unfolding timeStep
+time-only s ms o =
+    either-way (λ (r : Stepped). isClosed (r .session .phase) ≡ true → 7000 < s .idle + ms) (leb ms (longestIdle - s .idle))
+    (λ e c. absurd (false≢true (sym o ∙ c)))
+    (λ e c. omega (arith, leb-false ms (longestIdle - s .idle) e))
+
+-- ---- frames
+
+-- A phase that could arise is not closed.
+pub held-open : (phase : Phase) (flash : ℕ) → held phase flash ≡ true → isClosed phase ≡ false
+held-open Closed flash h = absurd (false≢true h)
+held-open Ready flash h = refl
+held-open (Begun t) flash h = refl
+held-open (Loading p number written) flash h = refl
+held-open (Done p written) flash h = refl
+
+-- An accepted packet closes nothing.
+phase-at-open : (p : Pieces) (number written : ℕ) → isClosed (phaseAt p number written) ≡ false
+unfolding phaseAt
+phase-at-open p number written = either-way (λ (phase : Phase). isClosed phase ≡ false) (eqb number (totalOf p)) (λ e. refl) (λ e. refl)
+
+-- Of the frames only an accepted 0x06 closes.
+frame-only : (phase : Phase) (command : ℕ) (payload flash : List ℕ) (d : Decision) → isClosed phase ≡ false
+    → Outcome phase command payload flash d → isClosed (d .phase) ≡ true
+    → (command ≡ restartCommand) × List·Memᴰ (restartReply accepted) (framesOf (d .say))
+frame-only phase command payload flash d o (stays say h e) c = absurd (false≢true (sym o ∙ (rw e at c)))
+frame-only phase command payload flash d o (restarts is e) c = (is, rw e (List·Memᴰ·head refl))
+frame-only phase command payload flash d o (begins t k n f e) c = absurd (false≢true (rw e at c))
+frame-only phase command payload flash d o (advances p number is x k e) c = absurd (false≢true (sym (phase-at-open p number _) ∙ (rw e at c)))
+frame-only phase command payload flash d o (repeats p number is x k same e) c = absurd (false≢true (sym o ∙ (rw e at c)))
+
+-- Such a reply is no refusal.
+pub reply-taken : (fs : List wire.Frame) → isRefused (answerOf fs) ≡ false
+reply-taken [] = refl
+reply-taken (f ∷ fs) = refl
+
+-- A frame is not passing time.
+abbrev isFrame : Event → Bool
+isFrame (Frame command count) = true
+isFrame (Elapsed ms) = false
+
+-- ---- the promises
+
+-- What closes an open session.
+closes-only : (s : Session) → takes s ≡ true → (g : Given) → Bytes (g .payload) → isClosed (nextOf s g .phase) ≡ true → Closes s g
+closes-only s t g bytes = go (exchange s g .left) refl (step-of s g)
+  where
+    opens : isClosed (s .phase) ≡ false
+    opens = held-open (s .phase) (s .flash) (takes-facts s t .1)
+
+    go : (x : Left) → exchange s g .left ≡ x → Step s g x → isClosed (x .session .phase) ≡ true → Closes s g
+    go x at (refuses n e) c = absurd (false≢true (sym opens ∙ (rw e at c)))
+    go x at (sleeps closed e) c = absurd (false≢true (sym closed ∙ t))
+    go x at (waits open-now size ms ev e) c = idle ms ev (time-only s ms opens (rw e at c))
+    go x at (hears open-now size command count ev e) c =
+        let only = frame-only (s .phase) command (payloadOf g) (g .flash) _ opens (outcome-of s g bytes t size command) (rw e at c) in
+        restart count (ev ∙ ap (λ (k : ℕ). Frame k count) (only .0))
+        (rw (at ∙ e, heard-performed s (decideOf (s .phase) command (payloadOf g) (g .flash)) (payloadOf g) (g .flash) (g .reply)) (only .1))
+
+-- A frame that is not refused sets the sum to 0.
+frame-restarts : (s : Session) → takes s ≡ true → (g : Given) (command count : ℕ) → g .event ≡ Frame command count
+    → isRefused (exchange s g .left .answer) ≡ false → nextOf s g .idle ≡ 0
+frame-restarts s t g command count is = go (exchange s g .left) (step-of s g)
+  where
+    go : (x : Left) → Step s g x → isRefused (x .answer) ≡ false → x .session .idle ≡ 0
+    go x (refuses n e) r = absurd (false≢true (sym (rw e at r)))
+    go x (sleeps closed e) r = absurd (false≢true (sym closed ∙ t))
+    go x (waits open-now size ms ev e) r = absurd (false≢true (ap isFrame (sym ev ∙ is)))
+    go x (hears open-now size c n ev e) r = rw e
+
+pub idle-rule : IdleRule
+idle-rule s t = record {
+  stays = λ ms payload flash reply room size h. step-taken s (Elapsed ms) payload flash reply room size t ∙ ap (λ (r : Stepped). left r flash reply) (time-stays s ms h);
+  closes = λ ms payload flash reply room size h. step-taken s (Elapsed ms) payload flash reply room size t ∙ ap (λ (r : Stepped). left r flash reply) (time-closes s ms (takes-facts s t .0 .waited) h);
+  restarts = frame-restarts s t;
+  only = closes-only s t;
+}
+
+pub refused-leaves : RefusedLeaves
+refused-leaves s g n = go (exchange s g .left) (step-of s g)
+  where
+    go : (x : Left) → Step s g x → x .answer ≡ Refused n → x ≡ left (stepped s (Refused n)) (g .flash) (g .reply)
+    go x (refuses m e) r = e ∙ ap (λ (a : Answer). left (stepped s a) (g .flash) (g .reply)) (rw e at r)
+    go x (sleeps closed e) r = absurd (false≢true (ap isRefused (rw e at r)))
+    go x (waits open-now size ms ev e) r = absurd (false≢true (ap isRefused (sym (time-answer s ms) ∙ (rw e at r))))
+    go x (hears open-now size c k ev e) r = absurd (false≢true (sym (reply-taken (framesOf (decideOf (s .phase) c (payloadOf g) (g .flash) .say))) ∙ ap isRefused (rw e at r)))
+
+pub closed-leaves : ClosedLeaves
+closed-leaves s g closed = go (exchange s g .left) (step-of s g)
+  where
+    go : (x : Left) → Step s g x → isRefused (x .answer) ≡ false → x ≡ left (stepped s Nothing) (g .flash) (g .reply)
+    go x (refuses n e) r = absurd (false≢true (sym (rw e at r)))
+    go x (sleeps n e) r = e
+    go x (waits open-now size ms ev e) r = absurd (false≢true (sym closed ∙ open-now))
+    go x (hears open-now size c k ev e) r = absurd (false≢true (sym closed ∙ open-now))

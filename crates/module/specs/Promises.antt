@@ -1,0 +1,298 @@
+-- What the module promises, to be read without the proofs. Each statement is proved in the file named beside it.
+use Prim.Native.Nat.{ℕ, zero, suc, _+_, _-_, _^_, _≤_, _<_}
+use mathlib.Core.Bool.{true, false, cond}
+use mathlib.Core.List.{List, [], _∷_, _++_, List·Memᴰ}
+use mathlib.Core.Path.{_≡_}
+use lib.ListN.{length, getD, take}
+use Rattle.octets.specs.Octets.{Bytes, numberAt, spelled, laid}
+use Rattle.kinds.specs.Kinds.{kindOf, baseOf, numberOf, tokenOf, longestImage}
+use Rattle.kinds.specs.declared.Kind.{Kind}
+use Rattle.kinds.specs.declared.Known.{Known}
+use Rattle.kinds.specs.declared.Known.the-variants.{Is, Unknown}
+use Rattle.pieces.specs.Pieces.{countOf, pieceOf}
+use Rattle.module.specs.Session.{largestPacket, largestTotal, session, stepped, openingOf, takes, isClosed, arises}
+use Rattle.module.specs.Rules.{parametersCommand, packetCommand, restartCommand, accepted, dataIn}
+use Rattle.module.specs.Rules.{parametersReply, packetReply, restartReply, notice}
+use Rattle.module.specs.Step.{left, smallestReply, stepOf}
+use Rattle.module.specs.Runs.{Given, Exchange, exchange, nextOf, afterOf, runOf, AllBytes, isRefused, Says, payloadOf}
+use Rattle.module.specs.Runs.{Offer, carried}
+use Rattle.module.specs.declared.session.Phase.the-variants.{Closed}
+use Rattle.module.specs.declared.session.Session.{Session}
+use Rattle.module.specs.declared.session.Event.{Event}
+use Rattle.module.specs.declared.session.Event.the-variants.{Frame, Elapsed}
+use Rattle.module.specs.declared.session.Answer.the-variants.{Nothing, Refused}
+
+-- The session that an opening gives.
+abbrev pub opened : List ℕ → Session
+opened flash = openingOf flash .session
+
+-- ---- M1, success
+
+-- The last exchange of a history whose reply accepts parameters, and the exchanges since.
+pub record LastParameters (history : List Exchange) (parameters : Exchange) (since : List Exchange) : Type 0 where
+  pub before : List Exchange
+  pub split : history ≡ before ++ (parameters ∷ since)
+  pub accepts : Says parameters (parametersReply accepted)
+  pub no-later : (x : Exchange) → List·Memᴰ x since → Says x (parametersReply accepted) → ⊥
+
+-- An exchange of some exchanges whose reply acknowledges a packet.
+pub record Acknowledged (number : ℕ) (xs : List Exchange) : Type 0 where
+  pub exchange : Exchange
+  pub there : List·Memᴰ exchange xs
+  pub says : Says exchange (packetReply number accepted)
+
+-- Packets 1 to Total have all been acknowledged since the last accepted parameters.
+pub record AllAccepted (history : List Exchange) (total : ℕ) : Type 0 where
+  pub parameters : Exchange
+  pub since : List Exchange
+  pub last : LastParameters history parameters since
+  pub each : (k : ℕ) → 1 ≤ k → k ≤ total → Acknowledged k since
+
+-- The last packet or its repeat: a 0x05 frame whose PkNo is its Total, acknowledged with that number.
+pub record LastPacket (x : Exchange) (total : ℕ) : Type 0 where
+  pub count : ℕ
+  pub packet : x .given .event ≡ Frame packetCommand count
+  pub total-field : numberAt 2 (payloadOf (x .given)) 0 ≡ total
+  pub number-field : numberAt 2 (payloadOf (x .given)) 2 ≡ total
+  pub some : 1 ≤ total
+  pub acknowledged : Says x (packetReply total accepted)
+
+-- What the notice of State 0 in a reply says.
+pub record Success (s : Session) (history : List Exchange) (x : Exchange) : Type 0 where
+  pub total : ℕ
+  pub last : LastPacket x total
+  pub all : AllAccepted history total
+  pub open-session : takes s ≡ true
+  pub not-refused : isRefused (x .left .answer) ≡ false
+
+-- M1 (Success.antt). Over any run from an opening, with any flash and any reply buffer lent at each step, the notice of State 0 is
+-- in a reply exactly when the event is the last packet or its repeat and each of 1 to Total has been acknowledged since the last
+-- accepted parameters. Acceptance is read off replies.
+abbrev pub SuccessExactly : Type 0
+SuccessExactly =
+    (flash : List ℕ) (gs : List Given) (g : Given) → AllBytes gs → Bytes (g .payload)
+    → let s = afterOf (opened flash) gs in
+    let x = exchange s g in
+    let history = runOf (opened flash) gs ++ (x ∷ []) in
+    (Says x (notice 0) → Success s history x)
+    × ((total : ℕ) → LastPacket x total → AllAccepted history total → Says x (notice 0))
+
+-- ---- M2, the flash
+
+-- Nobody else writes: from a flash on, each step that is not refused is lent what the step before it left. A refused one may be
+-- lent anything.
+abbrev pub keptBy : List ℕ → Exchange → List ℕ
+keptBy flash x = cond (isRefused (x .left .answer)) flash (x .left .flash)
+
+abbrev pub NobodyElse : List ℕ → List Exchange → Type 0
+NobodyElse flash [] = Unit
+NobodyElse flash (x ∷ xs) = (isRefused (x .left .answer) ≡ false → x .given .flash ≡ flash) × NobodyElse (keptBy flash x) xs
+
+-- The range that parameters declare: its base by the type, and its length.
+abbrev pub baseBy : Known → ℕ
+baseBy (Is kind) = baseOf kind
+baseBy Unknown = 0
+
+abbrev pub baseIn : Exchange → ℕ
+baseIn parameters = baseBy (kindOf (numberAt 2 (payloadOf (parameters .given)) 0))
+
+abbrev pub lengthIn : Exchange → ℕ
+lengthIn parameters = numberAt 4 (payloadOf (parameters .given)) 2
+
+-- Pieces one behind the other.
+abbrev pub joined : List (List ℕ) → List ℕ
+joined [] = []
+joined (d ∷ ds) = d ++ joined ds
+
+-- A flash holds packets 1 to Total in order in the declared range, and every other byte is what it was when the parameters were
+-- accepted.
+pub record HoldsImage (parameters : Exchange) (since : List Exchange) (total : ℕ) (flash : List ℕ) : Type 0 where
+  -- the data of packets 1 to Total,
+  pub pieces : List (List ℕ)
+  pub count : length pieces ≡ total
+  -- those of every packet that was acknowledged, repeats too,
+  pub each : (x : Exchange) → List·Memᴰ x since → (k : ℕ) → 1 ≤ k → k ≤ total → Says x (packetReply k accepted)
+      → dataIn (payloadOf (x .given)) ≡ getD pieces (k - 1) []
+  -- together as long as declared, in a range that lies within the flash,
+  pub whole : length (joined pieces) ≡ lengthIn parameters
+  pub inside : baseIn parameters + lengthIn parameters ≤ length (parameters .given .flash)
+  -- stand there, over the flash as it was lent with the parameters.
+  pub image : flash ≡ laid (parameters .given .flash) (baseIn parameters) (joined pieces)
+
+-- What success says of the flash.
+pub record FlashAtSuccess (history : List Exchange) (x : Exchange) : Type 0 where
+  pub parameters : Exchange
+  pub since : List Exchange
+  pub last : LastParameters history parameters since
+  pub holds : NobodyElse (parameters .given .flash) since
+      → HoldsImage parameters since (numberAt 2 (payloadOf (x .given)) 0) (x .left .flash)
+
+-- M2 (Flash.antt). At success, where nobody else has written since the parameters, the declared range holds the data of packets 1
+-- to Total in order, and every other byte is what it was.
+abbrev pub SuccessHolds : Type 0
+SuccessHolds =
+    (flash : List ℕ) (gs : List Given) (g : Given) → AllBytes gs → Bytes (g .payload)
+    → let x = exchange (afterOf (opened flash) gs) g in
+    Says x (notice 0) → FlashAtSuccess (runOf (opened flash) gs ++ (x ∷ [])) x
+
+-- A place lies in the range of the last accepted parameters.
+pub record InRange (history : List Exchange) (i : ℕ) : Type 0 where
+  pub parameters : Exchange
+  pub since : List Exchange
+  pub last : LastParameters history parameters since
+  pub from-base : baseIn parameters ≤ i
+  pub to-end : i < baseIn parameters + lengthIn parameters
+
+-- M2, at every step (Flash.antt). Whatever flash is lent, it keeps its length, and a byte of it changes only in the range of the
+-- transfer under way.
+abbrev pub OnlyInRange : Type 0
+OnlyInRange =
+    (flash : List ℕ) (gs : List Given) (g : Given) → AllBytes gs → Bytes (g .payload)
+    → let x = exchange (afterOf (opened flash) gs) g in
+    (length (x .left .flash) ≡ length (g .flash))
+    × ((i : ℕ) → (getD (x .left .flash) i 0 ≡ getD (g .flash) i 0 → ⊥) → InRange (runOf (opened flash) gs) i)
+
+-- ---- M3, the clean transfer
+
+-- Time events whose milliseconds, counted on from a sum, come to at most 7,000. Their payloads and reply buffers are any.
+abbrev pub Pause : ℕ → List Offer → Type 0
+Pause sum [] = sum ≤ 7000
+Pause sum (o ∷ os) = (ms : ℕ) × (o .event ≡ Elapsed ms) × Pause (sum + ms) os
+
+-- A frame is offered with a reply buffer of at least 64 bytes; its payload is the front of the lent slice.
+pub record Frames (command : ℕ) (payload : List ℕ) (o : Offer) : Type 0 where
+  pub count : ℕ
+  pub event-is : o .event ≡ Frame command count
+  pub payload-is : take count (o .payload) ≡ payload
+  pub room : smallestReply ≤ length (o .reply)
+
+-- The payload of 0x02 for an image: type, length, token.
+abbrev pub parametersFor : Kind → List ℕ → List ℕ
+parametersFor kind image = spelled 2 (numberOf kind) ++ (spelled 4 (length image) ++ spelled 4 (tokenOf kind))
+
+-- The payload of 0x05 for a piece: Total, PkNo, PkSize, data.
+abbrev pub packetFor : List ℕ → ℕ → ℕ → List ℕ
+packetFor image size k =
+    spelled 2 (countOf (length image) size)
+    ++ (spelled 2 k ++ (spelled 2 (length (pieceOf image size k)) ++ pieceOf image size k))
+
+-- Offers begin with a pause and packet k; what follows is as said.
+pub record PacketFirst (image : List ℕ) (size k : ℕ) (os : List Offer) (Rest : List Offer → Type 0) : Type 0 where
+  pub pause : List Offer
+  pub packet : Offer
+  pub rest : List Offer
+  pub split : os ≡ pause ++ (packet ∷ rest)
+  pub paused : Pause 0 pause
+  pub sends : Frames packetCommand (packetFor image size k) packet
+  pub then : Rest rest
+
+-- So many packets from number k on, each given once, in order, with a pause before each and no other frame between.
+abbrev pub PacketsFrom : List ℕ → ℕ → ℕ → ℕ → List Offer → Type 0
+PacketsFrom image size zero k os = os ≡ []
+PacketsFrom image size (suc n) k os = PacketFirst image size k os (PacketsFrom image size n (k + 1))
+
+-- A clean transfer of an image for a session whose idle sum is given: a pause, the parameters, packets 1 to Total.
+pub record CleanTransfer (idle : ℕ) (kind : Kind) (image : List ℕ) (size : ℕ) (os : List Offer) : Type 0 where
+  pub pause : List Offer
+  pub parameters : Offer
+  pub packets : List Offer
+  pub split : os ≡ pause ++ (parameters ∷ packets)
+  pub paused : Pause idle pause
+  pub declares : Frames parametersCommand (parametersFor kind image) parameters
+  pub sends : PacketsFrom image size (countOf (length image) size) 1 packets
+
+-- The transfer fits: an image of 1 to 262,143 bytes that lies within the flash from its base on, in pieces of 1 to 1,024 bytes, at
+-- most 65,535 of them.
+pub record Fits (kind : Kind) (image : List ℕ) (size : ℕ) (flash : List ℕ) : Type 0 where
+  pub some : 1 ≤ length image
+  pub short : length image ≤ longestImage
+  pub inside : baseOf kind + length image ≤ length flash
+  pub size-some : 1 ≤ size
+  pub size-most : size ≤ largestPacket
+  pub total-most : countOf (length image) size ≤ largestTotal
+
+-- Exchanges end in success: the last reply acknowledges the last packet and brings the notice of State 0, and the flash is as said.
+pub record EndsInSuccess (xs : List Exchange) (total : ℕ) (flash : List ℕ) : Type 0 where
+  pub before : List Exchange
+  pub last : Exchange
+  pub split : xs ≡ before ++ (last ∷ [])
+  pub acknowledges : Says last (packetReply total accepted)
+  pub success : Says last (notice 0)
+  pub leaves : last .left .flash ≡ flash
+
+-- M3 (Clean.antt). From any open session a clean transfer that fits, over the flash of the opening, which nobody else writes, ends
+-- in success with the image in its range and no other byte changed. The sum that the session brings counts as time gone.
+abbrev pub CleanSucceeds : Type 0
+CleanSucceeds =
+    (s : Session) (flash : List ℕ) (kind : Kind) (image : List ℕ) (size : ℕ) (os : List Offer) → takes s ≡ true
+    → length flash ≡ s .flash → Fits kind image size flash → CleanTransfer (s .idle) kind image size os
+    → EndsInSuccess (carried s flash os) (countOf (length image) size) (laid flash (baseOf kind) image)
+
+-- ---- M4, idle
+
+-- What closes an open session: a sum over 7,000, or an accepted 0x06.
+pub data Closes (s : Session) (g : Given) : Type 0 where
+  idle : (ms : ℕ) → g .event ≡ Elapsed ms → 7000 < s .idle + ms → Closes s g
+  restart : (count : ℕ) → g .event ≡ Frame restartCommand count → Says (exchange s g) (restartReply accepted) → Closes s g
+
+-- M4 (Idle.antt). In an open session, over the flash of the opening and with room for a reply:
+pub record Idle (s : Session) : Type 0 where
+  -- a sum of up to 7,000 is kept and nothing else moves,
+  pub stays : (ms : ℕ) (payload flash reply : List ℕ) → smallestReply ≤ length reply → length flash ≡ s .flash → s .idle + ms ≤ 7000
+      → stepOf s (Elapsed ms) payload flash reply ≡ left (stepped (session (s .flash) (s .idle + ms) (s .phase)) Nothing) flash reply
+  -- a sum over it closes, and stops at 7,001,
+  pub closes : (ms : ℕ) (payload flash reply : List ℕ) → smallestReply ≤ length reply → length flash ≡ s .flash → 7000 < s .idle + ms
+      → stepOf s (Elapsed ms) payload flash reply ≡ left (stepped (session (s .flash) 7001 Closed) Nothing) flash reply
+  -- a frame that is not refused sets the sum to 0,
+  pub restarts : (g : Given) (command count : ℕ) → g .event ≡ Frame command count → isRefused (exchange s g .left .answer) ≡ false
+      → nextOf s g .idle ≡ 0
+  -- and only such a sum and an accepted 0x06 close.
+  pub only : (g : Given) → Bytes (g .payload) → isClosed (nextOf s g .phase) ≡ true → Closes s g
+
+abbrev pub IdleRule : Type 0
+IdleRule = (s : Session) → takes s ≡ true → Idle s
+
+-- M4, what is refused (Idle.antt): 2 or 3, and session with its sum, flash and reply buffer stay as lent; time is not counted.
+abbrev pub RefusedLeaves : Type 0
+RefusedLeaves =
+    (s : Session) (g : Given) (n : ℕ) → exchange s g .left .answer ≡ Refused n
+    → exchange s g .left ≡ left (stepped s (Refused n)) (g .flash) (g .reply)
+
+-- A closed session, or one that could not arise, answers nothing but 2 and 3, and nothing changes (Idle.antt).
+abbrev pub ClosedLeaves : Type 0
+ClosedLeaves =
+    (s : Session) (g : Given) → takes s ≡ false → isRefused (exchange s g .left .answer) ≡ false
+    → exchange s g .left ≡ left (stepped s Nothing) (g .flash) (g .reply)
+
+-- ---- M5, which sessions arise
+
+-- M5 (Arises.antt). Every session that an opening and any run of steps leads to passes the test.
+abbrev pub ReachedArises : Type 0
+ReachedArises = (flash : List ℕ) (gs : List Given) → AllBytes gs → arises (afterOf (opened flash) gs) ≡ true
+
+-- What the types of the calls let through: bytes, a command byte, milliseconds of 32 bits.
+abbrev pub RealEvent : Event → Type 0
+RealEvent (Frame command count) = command < 256
+RealEvent (Elapsed ms) = ms < 2 ^ 32
+
+pub record Real (g : Given) : Type 0 where
+  pub event-real : RealEvent (g .event)
+  pub payload-bytes : Bytes (g .payload)
+  pub flash-bytes : Bytes (g .flash)
+  pub reply-bytes : Bytes (g .reply)
+
+abbrev pub AllReal : List Given → Type 0
+AllReal [] = Unit
+AllReal (g ∷ gs) = Real g × AllReal gs
+
+-- An opening and a run of steps that lead to a session.
+pub record Reached (s : Session) : Type 0 where
+  pub flash : List ℕ
+  pub flash-bytes : Bytes flash
+  pub steps : List Given
+  pub real : AllReal steps
+  pub leads : afterOf (opened flash) steps ≡ s
+
+-- M5, the other way (Reach.antt). Every session that passes the test is reached by some opening and some run.
+abbrev pub ArisesReached : Type 0
+ArisesReached = (s : Session) → arises s ≡ true → Reached s
