@@ -15,7 +15,8 @@ use Rattle.wire.specs.Frame as wire
 use Rattle.module.specs.Rules.{restartCommand, restartReply, accepted, framesOf, phaseAt, decideOf}
 use Rattle.module.specs.Step.{Left, left, timeStep, answerOf}
 use Rattle.module.specs.Runs.{Given, exchange, nextOf, isRefused, payloadOf}
-use Rattle.module.specs.RunsLaws.{step-taken, heard-performed}
+use Rattle.module.specs.RunsLaws.{heard-performed}
+use Rattle.module.specs.Forward.{time-counted, time-closed}
 use Rattle.module.specs.Outcomes.{Outcome, stays, restarts, begins, advances, repeats, Step, refuses, sleeps, waits, hears, step-of, outcome-of}
 use Rattle.module.specs.Promises.{Closes, idle, restart, Idle, IdleRule, RefusedLeaves, ClosedLeaves}
 use Rattle.module.specs.declared.session.Pieces.{Pieces}
@@ -30,16 +31,6 @@ use Rattle.module.specs.declared.session.Answer.the-variants.{Nothing, S
 use Rattle.module.specs.declared.rules.Decision.{Decision}
 
 -- ---- time
-
--- A sum of up to 7,000 is kept.
-time-stays : (s : Session) (ms : ℕ) → s .idle + ms ≤ 7000 → timeStep s ms ≡ stepped (session (s .flash) (s .idle + ms) (s .phase)) Nothing
-unfolding timeStep
-time-stays s ms h = rw (le-leb ms (longestIdle - s .idle) (omega arith))
-
--- A sum over it closes.
-time-closes : (s : Session) (ms : ℕ) → s .idle ≤ 7000 → 7000 < s .idle + ms → timeStep s ms ≡ stepped (session (s .flash) 7001 Closed) Nothing
-unfolding timeStep
-time-closes s ms a h = rw (lt-leb ms (longestIdle - s .idle) (omega arith))
 
 -- Time answers nothing, and closes only with a sum over 7,000.
 time-answer : (s : Session) (ms : ℕ) → timeStep s ms .answer ≡ Nothing
@@ -119,8 +110,8 @@ frame-restarts s t g command count is = go (exchange s g .left) (step-of s g)
 
 pub idle-rule : IdleRule
 idle-rule s t = record {
-  stays = λ ms payload flash reply room size h. step-taken s (Elapsed ms) payload flash reply room size t ∙ ap (λ (r : Stepped). left r flash reply) (time-stays s ms h);
-  closes = λ ms payload flash reply room size h. step-taken s (Elapsed ms) payload flash reply room size t ∙ ap (λ (r : Stepped). left r flash reply) (time-closes s ms (takes-facts s t .0 .waited) h);
+  stays = λ ms payload flash reply room size h. time-counted s ms payload flash reply t size room h;
+  closes = λ ms payload flash reply room size h. time-closed s ms payload flash reply t size room h;
   restarts = frame-restarts s t;
   only = closes-only s t;
 }

@@ -1,13 +1,17 @@
--- What the contracts of this crate cite, its laws, its runs and its promises.
+-- What the contracts of this crate cite (Session, Rules, Step), the runs that the promises speak of, the promises, and below them
+-- their proofs: the laws of each, what a frame can do (Outcomes, Forward), and a file for each promise.
 pub mod Session
-pub mod SessionLaws
 pub mod Rules
-pub mod RulesLaws
 pub mod Step
-pub mod StepLaws
 pub mod Runs
-pub mod RunsLaws
 pub mod Promises
+pub mod RulesLaws
+pub mod SessionLaws
+pub mod StepLaws
+pub mod RunsLaws
 pub mod Outcomes
-pub mod Arises
+pub mod Forward
 pub mod Idle
+pub mod Arises
+pub mod Reach
+pub mod Clean

@@ -19,7 +19,7 @@ use Rattle.kinds.specs.declared.Known.{Known}
 use Rattle.kinds.specs.declared.Known.the-variants.{Is, Unknown}
 use Rattle.refusals.specs.Refusals.{noRoom, wrongLength}
 use Rattle.pieces.specs.Pieces.{countOf, offsetOf, sizeAt}
-use Rattle.pieces.specs.PiecesLaws.{count-whole, count-many, count-some, count-one, size-last, size-before}
+use Rattle.pieces.specs.PiecesLaws.{size-first}
 use Rattle.module.specs.Session.{largestPacket, largestTotal, totalOf, stepped, fits, held, takes}
 use Rattle.module.specs.SessionLaws.{Cut, cut-total, cut-length, LoadingOf, loading-facts, DoneOf, done-facts, takes-facts}
 use Rattle.module.specs.Rules.{rateCommand, parametersCommand, packetCommand, restartCommand, accepted, wrongFirst, wrongSecond, notUnderstood}
@@ -143,21 +143,6 @@ total-short : (payload : List ℕ) → Bytes payload → numbersIn payload .tota
 unfolding numbersIn
 total-short payload bytes = omega (arith, number-short 2 payload 0 bytes)
 
--- Packet 1 has the size of the first piece.
-first-size : (n size : ℕ) → 1 ≤ size → size ≤ n → sizeAt n size 1 ≡ size
-first-size n size some most = go (eqb 1 (countOf n size)) refl
-  where
-    go : (t : Bool) → eqb 1 (countOf n size) ≡ t → sizeAt n size 1 ≡ size
-    go true t =
-        let one : 1 ≡ countOf n size = eqb-true 1 (countOf n size) t in
-        let over = count-one n size (omega arith) some (sym one) in
-        let last : sizeAt n size 1 ≡ n - offsetOf size (countOf n size) = ap (sizeAt n size) one ∙ size-last n size in
-        let at : offsetOf size (countOf n size) ≡ 0 = ap (offsetOf size) (sym one) ∙ omega arith in
-        omega (arith, over, last, at)
-    go false t =
-        let not-one : 1 ≡ countOf n size → ⊥ = eqb-false 1 (countOf n size) t in
-        size-before n size 1 (omega (arith, count-some n size (omega arith) some, not-one))
-
 -- A packet with the right numbers belongs to the transfer.
 belongs : (p : Pieces) (number : ℕ) (payload flash : List ℕ) → FitsFlash (p .transfer .kind) (p .transfer .length) (length flash)
     → Cut p → 1 ≤ number → number ≤ totalOf p → Formed payload → PacketOf p number (numbersIn payload)
@@ -213,7 +198,7 @@ module _ (command : ℕ) (payload flash : List ℕ) (c : command ≡ packetComma
       let packet : PacketOf p 1 given = record {
         this = eqb-true (given .number) 1 (each .0);
         total = into .count;
-        size = sym (first-size (t .length) (given .size) some (into .short));
+        size = sym (size-first (t .length) (given .size) some (into .short));
       } in
       advances p 1 c (first refl refl) (belongs p 1 payload flash fit cut (omega arith) (cut-total p cut) form packet)
       (ap (taken p 1) (omega (arith, form .size-is))))

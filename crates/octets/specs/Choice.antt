@@ -1,5 +1,5 @@
 -- Choices by a test, which every layer's definitions are made of.
-use mathlib.Core.Bool.{Bool, true, false, cond, not, _&&_, false≢true}
+use mathlib.Core.Bool.{Bool, true, false, cond, not, _&&_, _||_, false≢true}
 use mathlib.Core.Path.{_≡_, refl, sym, _∙_}
 use borrow.Author.Tests.{not-true, not-false}
 
@@ -25,6 +25,11 @@ either-way P false h k = k refl
 pub both : (a b : Bool) → (a && b) ≡ true → (a ≡ true) × (b ≡ true)
 both true b h = (refl, h)
 both false b h = absurd (false≢true h)
+
+-- What follows from each of two tests follows where one of them holds.
+pub one-holds : {P : Type 0} (a b : Bool) → (a ≡ true → P) → (b ≡ true → P) → (a || b) ≡ true → P
+one-holds true b h k e = h refl
+one-holds false b h k e = k e
 
 -- What a call answered, turned round by a test of its negation: the definition that it equals.
 pub passed : {x t : Bool} → x ≡ t → not x ≡ false → t ≡ true

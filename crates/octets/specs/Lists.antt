@@ -1,13 +1,13 @@
 -- Facts about lists and bytes that several crates use.
-use Prim.Native.Nat.{ℕ, zero, suc, _+_, _-_, _≤_, _<_, min}
+use Prim.Native.Nat.{ℕ, zero, suc, _+_, _-_, _/_, _≤_, _<_, min}
 use mathlib.Core.List.{List, [], _∷_, _++_, map, List·Memᴰ, List·Memᴰ·head, List·Memᴰ·tail}
 use mathlib.Core.Path.{_≡_, sym}
 use native.Mathlib.Decide.{decLe}
 use native.Mathlib.Nat.{min-eq-left, min-eq-right}
 use native.Mathlib.Omega.{arith}
-use lib.ListN.{length, getD, take, drop, length-drop}
+use lib.ListN.{length, getD, take, drop, replicate, length-drop}
 use lib.Seq.{take-all, take-take, take-nil, take-length, length-take-le}
-use Rattle.octets.specs.Octets.{Bytes, Front}
+use Rattle.octets.specs.Octets.{Bytes, spelled, Front}
 
 -- A part that lies in the first k elements is a part of those.
 pub part-take : {A : Type 0} (m n k : ℕ) (l : List A) → n + m ≤ k → take m (drop n (take k l)) ≡ take m (drop n l)
@@ -21,7 +21,8 @@ pub same-each : {A B : Type 0} (f g : A → B) (l : List A) → map f l ≡ map 
 same-each f g (x ∷ l) e a (List·Memᴰ·head p) = cc
 same-each f g (x ∷ l) e a (List·Memᴰ·tail m) = same-each f g l (cc) a m
 
--- The front of a list of bytes, what is left of one, and one with a byte behind it are bytes; each place holds a byte.
+-- The front of a list of bytes, what is left of one, one with a byte or bytes behind it, one byte many times and a number's
+-- spelling are bytes; each place holds a byte.
 pub bytes-take : (n : ℕ) (bs : List ℕ) → Bytes bs → Bytes (take n bs)
 bytes-take zero bs h = tt
 bytes-take (suc n) [] h = tt
@@ -35,6 +36,19 @@ bytes-drop (suc n) (b ∷ bs) h = bytes-drop n bs (h .1)
 pub bytes-snoc : (bs : List ℕ) (b : ℕ) → Bytes bs → b < 256 → Bytes (bs ++ (b ∷ []))
 bytes-snoc [] b h l = (l, tt)
 bytes-snoc (x ∷ bs) b h l = (h .0, bytes-snoc bs b (h .1) l)
+
+pub bytes-append : (bs cs : List ℕ) → Bytes bs → Bytes cs → Bytes (bs ++ cs)
+bytes-append [] cs h k = k
+bytes-append (b ∷ bs) cs h k = (h .0, bytes-append bs cs (h .1) k)
+
+pub bytes-replicate : (n b : ℕ) → b < 256 → Bytes (replicate n b)
+bytes-replicate zero b l = tt
+bytes-replicate (suc n) b l = (l, bytes-replicate n b l)
+
+pub bytes-spelled : (n x : ℕ) → Bytes (spelled n x)
+unfolding spelled
+bytes-spelled zero x = tt
+bytes-spelled (suc n) x = (omega arith, bytes-spelled n (x / 256))
 
 pub byte-at : (bs : List ℕ) (i : ℕ) → Bytes bs → getD bs i 0 < 256
 byte-at [] i h = omega arith

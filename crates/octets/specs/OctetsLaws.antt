@@ -4,7 +4,7 @@ use mathlib.Core.Bool.{Bool, true, false, _&&_, and-false, false≢true}
 use mathlib.Core.List.{List, [], _∷_, _++_, append-assoc, append-nil}
 use mathlib.Core.Path.{_≡_, refl, sym, ap, ap₂, _∙_}
 use native.Mathlib.Decide.{decLe}
-use native.Mathlib.Nat.{le-trans, le-add-right, min-eq-left, min-eq-right, div-lt-iff-lt-mul, pow-suc}
+use native.Mathlib.Nat.{add-zero, le-trans, le-add-right, min-eq-left, min-eq-right, div-lt-iff-lt-mul, pow-suc}
 use native.Mathlib.Numerals.{add-one, add-two}
 use native.Mathlib.Omega.{arith}
 use borrow.Author.Tests.{eq-eqb, eqb-true, ne-eqb}
@@ -254,6 +254,17 @@ laid-over : (d : List ℕ) (at : ℕ) (s : List ℕ) → at + length s ≤ lengt
 laid-over d at s h =
     ap (λ (l : List ℕ). laid l at s) (sym (over-take at d (omega arith)))
     ∙ over-laid (take at d) d s at (length-take-le at d (omega arith)) h
+
+-- Nothing laid anywhere changes nothing.
+pub laid-nothing : (d : List ℕ) (at : ℕ) → laid d at [] ≡ d
+unfolding laid
+laid-nothing d at = rw (take-nil (length d - at), add-zero at) (take-append-drop at d)
+
+-- A run that fits leaves the buffer as long as it was.
+pub laid-long : (d : List ℕ) (at : ℕ) (s : List ℕ) → at + length s ≤ length d → length (laid d at s) ≡ length d
+laid-long d at s h =
+    let front : length (take at d ++ s) ≤ length d = rw (length-append, length-take-le at d (omega arith)) h in
+    rw (laid-over d at s h) (length-over (take at d ++ s) d front)
 
 -- A run laid behind another is both laid as one.
 pub laid-next : (d : List ℕ) (at : ℕ) (s t : List ℕ) → at + length s + length t ≤ length d

@@ -6,6 +6,7 @@ use native.Mathlib.Decide.{decLt}
 use native.Mathlib.Nat.{add-div-right, div-eq-of-lt, div-eq-of-lt-le, div-mul-le-self, div-le-self, lt-div-mul-add}
 use native.Mathlib.Nat.{mul-le-mul-right, suc-mul}
 use native.Mathlib.Numerals.{add-one}
+use native.Mathlib.Decide.{ℕ-discrete}
 use native.Mathlib.Omega.{arith}
 use borrow.Author.Tests.{eq-eqb, ne-eqb}
 use lib.ListN.{length, take, drop, length-drop}
@@ -106,6 +107,16 @@ size-last n size = rw (eq-eqb (countOf n size) (countOf n size) refl)
 pub size-before : (n size number : ℕ) → number < countOf n size → sizeAt n size number ≡ size
 unfolding sizeAt
 size-before n size number h = rw (ne-eqb number (countOf n size) (λ e. omega (arith, e)))
+
+-- The first piece has the size, where the size is not over the length.
+pub size-first : (n size : ℕ) → 1 ≤ size → size ≤ n → sizeAt n size 1 ≡ size
+size-first n size some most = go (ℕ-discrete 1 (countOf n size))
+  where
+    go : Dec (1 ≡ countOf n size) → sizeAt n size 1 ≡ size
+    go (yes one) =
+        let last : sizeAt n size 1 ≡ n - offsetOf size 1 = rw (← one) at (size-last n size) in
+        omega (arith, count-one n size (omega arith) some (sym one), last)
+    go (no more) = size-before n size 1 (omega (arith, count-some n size (omega arith) some, more))
 
 -- A piece is not empty and not longer than the size; it ends within the image, and the last one with it.
 pub record Within (n size number : ℕ) : Type 0 where

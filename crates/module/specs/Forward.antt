@@ -1,0 +1,288 @@
+-- What frames and time do where the facts for them hold: parameters that fit are accepted, the packet that is due is taken, a short
+-- wait is counted.
+use Prim.Native.Nat.{ℕ, zero, suc, _+_, _*_, _-_, _^_, _≤_, _<_}
+use mathlib.Core.Bool.{Bool, true, false, cond}
+use mathlib.Core.List.{List}
+use mathlib.Core.Path.{_≡_, refl, sym, ap, _∙_}
+use native.Mathlib.Decide.{decLt}
+use native.Mathlib.Nat.{zero-mul}
+use native.Mathlib.Omega.{arith}
+use borrow.Author.Tests.{le-leb, lt-leb, eq-eqb, ne-eqb, eqb-true}
+use lib.Dec.{eqb}
+use lib.ListN.{length}
+use Rattle.octets.specs.Choice.{cond-yes, cond-no, either-way}
+use Rattle.octets.specs.Octets.{numberAt, spelled}
+use Rattle.octets.specs.OctetsLaws.{little-spelled}
+use Rattle.kinds.specs.Kinds.{numberOf, tokenOf, longestImage}
+use Rattle.kinds.specs.KindsLaws.{FitsFlash, flash-fits, kind-of-number, kind-spelled}
+use Rattle.kinds.specs.declared.Kind.{Kind}
+use Rattle.kinds.specs.declared.Kind.the-variants.{Navigation, Upgrade, Parameters}
+use Rattle.pieces.specs.Pieces.{countOf, sizeAt, pieceOf}
+use Rattle.pieces.specs.PiecesLaws.{within, size-first, size-before, length-piece, ends-with}
+use Rattle.pieces.specs.PiecesLaws.{product-more}
+use Rattle.module.specs.Session.{largestFlash, largestPacket, longestIdle, session, stepped}
+use Rattle.module.specs.Session.{openable, openingOf, totalOf, held, takes}
+use Rattle.module.specs.SessionLaws.{Cut, cut-length, cut-total, facts-loading, facts-takes, takes-facts}
+use Rattle.module.specs.Rules.{parametersCommand, packetCommand, accepted, unmoved, taken, dataIn}
+use Rattle.module.specs.Rules.{kindDecision, parametersDecision, numbersIn, wellFormed, cutsInto, isPacket}
+use Rattle.module.specs.Rules.{phaseAt, firstDecision, loadingDecision, phaseDecision, packetDecision, decideOf}
+use Rattle.module.specs.RulesLaws.{FormOf, formed-yes, CutOf, cut-yes, PacketOf, packet-yes, first-taken, next-taken}
+use Rattle.module.specs.Step.{left, smallestReply, performed, frameStep, timeStep, stepOf}
+use Rattle.module.specs.Runs.{Offer, given, exchange}
+use Rattle.module.specs.RunsLaws.{step-taken}
+use Rattle.module.specs.Promises.{opened, Frames, parametersFor, packetFor}
+use Rattle.module.specs.declared.session.Transfer.{Transfer}
+use Rattle.module.specs.declared.session.Pieces.{Pieces}
+use Rattle.module.specs.declared.session.Phase.{Phase}
+use Rattle.module.specs.declared.session.Phase.the-variants.{Closed, Ready, Begun, Loading, Done}
+use Rattle.module.specs.declared.session.Session.{Session}
+use Rattle.module.specs.declared.session.Event.the-variants.{Elapsed}
+use Rattle.module.specs.declared.session.Answer.the-variants.{Nothing}
+use Rattle.module.specs.declared.session.Stepped.{Stepped}
+use Rattle.module.specs.declared.rules.Say.the-variants as say
+use Rattle.module.specs.declared.rules.Numbers.{Numbers}
+
+-- ---- the opening
+
+-- A flash that can be opened gives a ready session, any other a closed one.
+pub opened-ready : (flash : List ℕ) (n : ℕ) → length flash ≡ n → openable n ≡ true → opened flash ≡ session n 0 Ready
+unfolding openingOf
+opened-ready flash n long can =
+    ap (λ (r : Stepped). r .session) (cond-yes (openable (length flash)) _ _ (rw long can)) ∙ rw long
+
+pub opened-closed : (flash : List ℕ) (n : ℕ) → length flash ≡ n → openable n ≡ false → opened flash ≡ session n 0 Closed
+unfolding openingOf
+opened-closed flash n long cannot =
+    ap (λ (r : Stepped). r .session) (cond-no (openable (length flash)) _ _ (rw long cannot)) ∙ rw long
+
+-- ---- parameters
+
+-- What the parameters for an image declare.
+abbrev pub transferFor : Kind → List ℕ → Transfer
+transferFor kind image = record { kind = kind; length = length image }
+
+-- The address of a kind fits four bytes.
+token-spelled : (k : Kind) → tokenOf k < 256 ^ 4
+token-spelled Navigation = omega arith
+token-spelled Upgrade = omega arith
+token-spelled Parameters = omega arith
+
+-- The three numbers of the parameters for an image are read again.
+type-read : (kind : Kind) (image : List ℕ) → numberAt 2 (parametersFor kind image) 0 ≡ numberOf kind
+unfolding numberAt spelled
+type-read kind image = little-spelled 2 (numberOf kind) (kind-spelled kind .0)
+
+length-read : (kind : Kind) (image : List ℕ) → length image ≤ longestImage → numberAt 4 (parametersFor kind image) 2 ≡ length image
+unfolding numberAt spelled
+length-read kind image h = little-spelled 4 (length image) (omega arith)
+
+address-read : (kind : Kind) (image : List ℕ) → numberAt 4 (parametersFor kind image) 6 ≡ tokenOf kind
+unfolding numberAt spelled
+address-read kind image = little-spelled 4 (tokenOf kind) (token-spelled kind)
+
+parameters-long : (kind : Kind) (image : List ℕ) → length (parametersFor kind image) ≡ 10
+unfolding spelled
+parameters-long kind image = refl
+
+-- The parameters for an image that fits the flash are accepted in any phase.
+pub parameters-accepted : (phase : Phase) (kind : Kind) (image flash : List ℕ) → FitsFlash kind (length image) (length flash)
+    → decideOf phase parametersCommand (parametersFor kind image) flash
+    ≡ unmoved (Begun (transferFor kind image)) (say.Parameters accepted)
+unfolding decideOf parametersDecision kindDecision
+parameters-accepted phase kind image flash f =
+    rw (
+      parameters-long kind image,
+      type-read kind image,
+      kind-of-number kind,
+      address-read kind image,
+      eq-eqb (tokenOf kind) (tokenOf kind) refl,
+      length-read kind image (f .short),
+      flash-fits kind (length image) (length flash) f,
+    )
+
+-- ---- packets
+
+-- The numbers of a packet for a piece.
+abbrev numbersFor : List ℕ → ℕ → ℕ → Numbers
+numbersFor image size k = record { total = countOf (length image) size; number = k; size = length (pieceOf image size k) }
+
+-- A transfer of an image into a flash: its length is declared, it fits, and the packet size cuts it.
+pub record Carries (p : Pieces) (image : List ℕ) (flash : ℕ) : Type 0 where
+  pub whole : length image ≡ p .transfer .length
+  pub fitting : FitsFlash (p .transfer .kind) (p .transfer .length) flash
+  pub cut : Cut p
+
+-- The facts of one of its pieces: not empty, not over the size, and as long as the number says.
+pub record PieceOf (p : Pieces) (image : List ℕ) (k : ℕ) : Type 0 where
+  pub some : 1 ≤ length (pieceOf image (p .size) k)
+  pub small : length (pieceOf image (p .size) k) ≤ largestPacket
+  pub long : length (pieceOf image (p .size) k) ≡ sizeAt (p .transfer .length) (p .size) k
+
+pub piece-facts : (p : Pieces) (image : List ℕ) (flash k : ℕ) → Carries p image flash → 1 ≤ k → k ≤ totalOf p → PieceOf p image k
+piece-facts p image flash k c one most =
+    let n = p .transfer .length in
+    let some : 1 ≤ n = cut-length p (c .cut) in
+    let w = within n (p .size) k some (c .cut .some) one most in
+    let here : k ≤ countOf (length image) (p .size) = rw (c .whole) most in
+    let long : length (pieceOf image (p .size) k) ≡ sizeAt n (p .size) k =
+    length-piece image (p .size) k (rw (c .whole) some) (c .cut .some) one here
+    ∙ ap (λ (m : ℕ). sizeAt m (p .size) k) (c .whole) in
+    record { some = rw long (w .some); small = rw long (omega (arith, w .most, c .cut .small)); long = long }
+
+-- The numbers of a packet for a piece are read again, and its data.
+numbers-read : (image : List ℕ) (size k : ℕ) → countOf (length image) size < 256 ^ 2 → k < 256 ^ 2
+    → length (pieceOf image size k) < 256 ^ 2 → numbersIn (packetFor image size k) ≡ numbersFor image size k
+unfolding numbersIn numberAt spelled
+numbers-read image size k total number long =
+    rw (
+      little-spelled 2 (countOf (length image) size) total,
+      little-spelled 2 k number,
+      little-spelled 2 (length (pieceOf image size k)) long,
+    )
+
+pub data-read : (image : List ℕ) (size k : ℕ) → dataIn (packetFor image size k) ≡ pieceOf image size k
+unfolding spelled
+data-read image size k = refl
+
+packet-long : (image : List ℕ) (size k : ℕ) → length (packetFor image size k) ≡ 6 + length (pieceOf image size k)
+unfolding spelled
+packet-long image size k = omega arith
+
+-- The packet for a piece is decided by its numbers.
+packet-decided : (phase : Phase) (p : Pieces) (image flash : List ℕ) (k : ℕ) → Carries p image (length flash) → 1 ≤ k → k ≤ totalOf p
+    → decideOf phase packetCommand (packetFor image (p .size) k) flash
+    ≡ phaseDecision phase (numbersFor image (p .size) k) (pieceOf image (p .size) k) flash
+unfolding decideOf packetDecision
+packet-decided phase p image flash k c one most =
+    let f = piece-facts p image (length flash) k c one most in
+    let total : countOf (length image) (p .size) < 256 ^ 2 = rw (c .whole) (omega (arith, c .cut .carried)) in
+    rw (
+      numbers-read image (p .size) k total (omega (arith, c .cut .carried, most)) (omega (arith, f .small)),
+      packet-long image (p .size) k,
+      formed-yes _ (length (pieceOf image (p .size) k)) (record { some = f .some; most = f .small; long = refl }),
+      data-read image (p .size) k,
+    )
+
+-- ---- the packet that is due
+
+-- The phase after so many packets, fewer than Total: begun, or loading with all of them written whole.
+unfoldable pub waiting : Pieces → ℕ → Phase
+waiting p n = cond (eqb n 0) (Begun (p .transfer)) (Loading p n (n * p .size))
+
+pub waiting-none : (p : Pieces) → waiting p 0 ≡ Begun (p .transfer)
+unfolding waiting
+waiting-none p = refl
+
+pub waiting-some : (p : Pieces) (n : ℕ) → 1 ≤ n → waiting p n ≡ Loading p n (n * p .size)
+unfolding waiting
+waiting-some p n one = rw (ne-eqb n 0 (λ e. omega (arith, one, e)))
+
+-- Such a phase holds over a flash that the transfer fits.
+waiting-held : (p : Pieces) (image : List ℕ) (flash n : ℕ) → Carries p image flash → n < totalOf p → held (waiting p n) flash ≡ true
+waiting-held p image flash zero c less =
+    rw (waiting-none p) (flash-fits (p .transfer .kind) (p .transfer .length) flash (c .fitting))
+waiting-held p image flash (suc n) c less =
+    rw (waiting-some p (suc n) (omega arith))
+    (facts-loading p flash (suc n) (suc n * p .size)
+    (record { fitting = c .fitting; cut = c .cut; one = omega arith; before = less; all = refl }))
+
+-- A session in such a phase takes events.
+pub waiting-takes : (p : Pieces) (image : List ℕ) (flash n : ℕ) → Carries p image flash → n < totalOf p → flash ≤ largestFlash
+    → takes (session flash 0 (waiting p n)) ≡ true
+waiting-takes p image flash n c less most =
+    facts-takes (session flash 0 (waiting p n))
+    (record { some = omega (arith, c .fitting .some, c .fitting .inside); most = most; waited = omega arith })
+    (waiting-held p image flash n c less)
+
+-- The numbers of the packet with a number that belongs to a transfer.
+abbrev numbersAt : Pieces → ℕ → Numbers
+numbersAt p k = record { total = totalOf p; number = k; size = sizeAt (p .transfer .length) (p .size) k }
+
+-- Packet 1 with these numbers is taken before any other, and the next one while loading.
+first-due : (p : Pieces) → Cut p → firstDecision (p .transfer) (numbersAt p 1) ≡ taken p 1 (p .size)
+first-due p c =
+    let n = p .transfer .length in
+    let size : sizeAt n (p .size) 1 ≡ p .size = size-first n (p .size) (c .some) (c .within) in
+    let cut = cut-yes n (totalOf p) (p .size) (cut-length p c) (c .some) (record { count = refl; short = c .within }) in
+    ap (λ (k : ℕ). firstDecision (p .transfer) (record { total = totalOf p; number = 1; size = k })) size
+    ∙ first-taken (p .transfer) (record { total = totalOf p; number = 1; size = p .size }) refl cut
+
+next-due : (p : Pieces) (number written : ℕ) (bytes flash : List ℕ)
+    → loadingDecision p number written (numbersAt p (number + 1)) bytes flash
+    ≡ taken p (number + 1) (written + sizeAt (p .transfer .length) (p .size) (number + 1))
+next-due p number written bytes flash =
+    let given = numbersAt p (number + 1) in
+    next-taken p number written given bytes flash
+    (packet-yes p (number + 1) given (record { this = refl; total = refl; size = refl }))
+
+-- What has been written after the packet that is due.
+abbrev pub writtenWith : Pieces → ℕ → ℕ
+writtenWith p n = n * p .size + sizeAt (p .transfer .length) (p .size) (n + 1)
+
+-- The packet that is due is taken.
+due-taken : (p : Pieces) (n : ℕ) (bytes flash : List ℕ) → Cut p → n < totalOf p
+    → phaseDecision (waiting p n) (numbersAt p (n + 1)) bytes flash ≡ taken p (n + 1) (writtenWith p n)
+due-taken p zero bytes flash c less =
+    let written : p .size ≡ writtenWith p 0 = omega (arith, size-first (p .transfer .length) (p .size) (c .some) (c .within), zero-mul (p .size)) in
+    rw (waiting-none p) (first-due p c ∙ ap (taken p 1) written)
+due-taken p (suc n) bytes flash c less =
+    rw (waiting-some p (suc n) (omega arith)) (next-due p (suc n) (suc n * p .size) bytes flash)
+
+pub packet-taken : (p : Pieces) (image flash : List ℕ) (n : ℕ) → Carries p image (length flash) → n < totalOf p
+    → decideOf (waiting p n) packetCommand (packetFor image (p .size) (n + 1)) flash ≡ taken p (n + 1) (writtenWith p n)
+packet-taken p image flash n c less =
+    let due : n + 1 ≤ totalOf p = omega (arith, less) in
+    packet-decided (waiting p n) p image flash (n + 1) c (omega arith) due
+    ∙ rw (c .whole, piece-facts p image (length flash) (n + 1) c (omega arith) due .long)
+    (due-taken p n (pieceOf image (p .size) (n + 1)) flash (c .cut) less)
+
+-- With it the transfer waits for the next one, or is done and all is written.
+pub taken-waits : (p : Pieces) (n : ℕ) → n + 1 < totalOf p → phaseAt p (n + 1) (writtenWith p n) ≡ waiting p (n + 1)
+unfolding phaseAt
+taken-waits p n less =
+    let written : writtenWith p n ≡ (n + 1) * p .size =
+    rw (size-before (p .transfer .length) (p .size) (n + 1) less) (sym (product-more n (p .size))) in
+    rw (ne-eqb (n + 1) (totalOf p) (λ e. omega (arith, less, e)), written) (sym (waiting-some p (n + 1) (omega arith)))
+
+pub taken-done : (p : Pieces) (n : ℕ) → Cut p → n + 1 ≡ totalOf p → phaseAt p (n + 1) (writtenWith p n) ≡ Done p (p .transfer .length)
+unfolding phaseAt
+taken-done p n c last =
+    let offset : n ≡ totalOf p - 1 = omega (arith, last) in
+    let written : writtenWith p n ≡ p .transfer .length =
+    rw (last, offset) (ends-with (p .transfer .length) (p .size) (cut-length p c) (c .some)) in
+    rw (eq-eqb (n + 1) (totalOf p) last, written)
+
+-- ---- steps
+
+-- A frame given to an open session over the flash of the opening, with room for a reply, is decided and performed.
+pub frame-taken : (s : Session) (command : ℕ) (payload flash : List ℕ) (o : Offer) → takes s ≡ true → length flash ≡ s .flash
+    → Frames command payload o
+    → exchange s (given flash o) .left ≡ performed s (decideOf (s .phase) command payload flash) payload flash (o .reply)
+unfolding frameStep
+frame-taken s command payload flash o t size f =
+    step-taken s (o .event) (o .payload) flash (o .reply) (f .room) size t
+    ∙ rw (f .event-is, f .payload-is)
+
+-- A wait after which the sum is at most 7,000 is counted.
+pub time-counted : (s : Session) (ms : ℕ) (payload flash reply : List ℕ) → takes s ≡ true → length flash ≡ s .flash
+    → smallestReply ≤ length reply → s .idle + ms ≤ longestIdle
+    → stepOf s (Elapsed ms) payload flash reply ≡ left (stepped (session (s .flash) (s .idle + ms) (s .phase)) Nothing) flash reply
+unfolding timeStep
+time-counted s ms payload flash reply t size room short =
+    step-taken s (Elapsed ms) payload flash reply room size t
+    ∙ rw (le-leb ms (longestIdle - s .idle) (omega (arith, short)))
+
+-- A wait after which it is over 7,000 closes, and the sum stops at 7,001.
+pub time-closed : (s : Session) (ms : ℕ) (payload flash reply : List ℕ) → takes s ≡ true → length flash ≡ s .flash
+    → smallestReply ≤ length reply → longestIdle < s .idle + ms
+    → stepOf s (Elapsed ms) payload flash reply ≡ left (stepped (session (s .flash) 7001 Closed) Nothing) flash reply
+unfolding timeStep
+time-closed s ms payload flash reply t size room long =
+    step-taken s (Elapsed ms) payload flash reply room size t
+    ∙ rw (lt-leb ms (longestIdle - s .idle) (omega (arith, long, takes-facts s t .0 .waited)))
+
+-- With the wait counted the session still takes events.
+pub counted-takes : (s : Session) (idle : ℕ) → takes s ≡ true → idle ≤ longestIdle → takes (session (s .flash) idle (s .phase)) ≡ true
+counted-takes s idle t short =
+    let f = takes-facts s t in
+    facts-takes (session (s .flash) idle (s .phase)) (record { some = f .0 .some; most = f .0 .most; waited = short }) (f .1)
