@@ -1,19 +1,19 @@
 -- M5: every session that an opening and any run of steps leads to passes the test.
-use Prim.Native.Nat.{ℕ, _+_, _*_, _-_, _≤_, _<_}
-use mathlib.Core.Bool.{Bool, true, false, cond, _&&_, _||_, or-true}
+use Prim.Native.Nat.{ℕ, _+_, _-_, _<_}
+use mathlib.Core.Bool.{true, or-true}
 use mathlib.Core.List.{List, [], _∷_}
-use mathlib.Core.Path.{_≡_, refl, sym, ap, _∙_}
+use mathlib.Core.Path.{_≡_, refl, ap, _∙_}
 use native.Mathlib.Omega.{arith}
-use borrow.Author.Tests.{leb-true, leb-false, eqb-true, eqb-false, eq-eqb}
+use borrow.Author.Tests.{leb-true, eqb-true, eqb-false}
 use lib.Dec.{eqb, leb}
 use lib.ListN.{length}
 use Rattle.octets.specs.Octets.{Bytes}
 use Rattle.octets.specs.Choice.{either-way}
-use Rattle.kinds.specs.KindsLaws.{FitsFlash, flash-fits}
+use Rattle.kinds.specs.KindsLaws.{flash-fits}
 use Rattle.pieces.specs.Pieces.{offsetOf, sizeAt}
 use Rattle.pieces.specs.PiecesLaws.{ends-with, size-before, product-step}
-use Rattle.module.specs.Session.{largestFlash, longestIdle, session, openable, openingOf, totalOf, held, takes, isClosed, closedArises, arises}
-use Rattle.module.specs.SessionLaws.{Alive, Cut, cut-length, facts-loading, facts-done, takes-facts, facts-takes, sizes-openable, openable-sizes}
+use Rattle.module.specs.Session.{longestIdle, session, openable, openingOf, totalOf, held, takes, closedArises, arises}
+use Rattle.module.specs.SessionLaws.{cut-length, facts-loading, facts-done, takes-facts, facts-takes, sizes-openable, openable-sizes}
 use Rattle.module.specs.Rules.{dataIn, phaseAt}
 use Rattle.module.specs.Step.{Left, timeStep}
 use Rattle.module.specs.Runs.{Given, nextOf, afterOf, AllBytes, exchange}
@@ -21,7 +21,7 @@ use Rattle.module.specs.Outcomes.{Belongs, Outcome, stays, restarts, beg
 use Rattle.module.specs.Promises.{opened, ReachedArises}
 use Rattle.module.specs.declared.session.Pieces.{Pieces}
 use Rattle.module.specs.declared.session.Phase.{Phase}
-use Rattle.module.specs.declared.session.Phase.the-variants.{Closed, Ready, Begun, Loading, Done}
+use Rattle.module.specs.declared.session.Phase.the-variants.{Closed, Ready, Begun}
 use Rattle.module.specs.declared.session.Session.{Session}
 use Rattle.module.specs.declared.session.Stepped.{Stepped}
 use Rattle.module.specs.declared.rules.Decision.{Decision}

@@ -10,7 +10,7 @@ use borrow.Author.Tests.{lt-ltb, eq-eqb}
 use lib.ListN.{length, take}
 use lib.Seq.{take-all, take-length, length-take-le}
 use Rattle.octets.specs.Octets.{partOf, laid}
-use Rattle.octets.specs.OctetsLaws.{laid-nothing, laid-long, laid-next}
+use Rattle.octets.specs.OctetsLaws.{laid-nothing, laid-length, laid-next}
 use Rattle.kinds.specs.Kinds.{baseOf}
 use Rattle.kinds.specs.KindsLaws.{FitsFlash}
 use Rattle.kinds.specs.declared.Kind.{Kind}
@@ -127,7 +127,7 @@ front-long p image flash n c less = length-take-le (n * p .size) image (omega (a
 flash-long : (p : Pieces) (image flash : List ℕ) (n : ℕ) → Carries p image (length flash) → n < totalOf p
     → length (flashAfter p image flash n) ≡ length flash
 flash-long p image flash n c less =
-    laid-long flash (baseOf (p .transfer .kind)) (take (n * p .size) image)
+    laid-length flash (baseOf (p .transfer .kind)) (take (n * p .size) image)
     (omega (arith, front-long p image flash n c less, due-short p n (c .cut) less, c .fitting .inside))
 
 -- Before packet 1 the flash is as lent, after packet Total it holds the image.

@@ -1,16 +1,15 @@
 -- What frames and time do where the facts for them hold: parameters that fit are accepted, the packet that is due is taken, a short
 -- wait is counted.
 use Prim.Native.Nat.{ℕ, zero, suc, _+_, _*_, _-_, _^_, _≤_, _<_}
-use mathlib.Core.Bool.{Bool, true, false, cond}
+use mathlib.Core.Bool.{true, false, cond}
 use mathlib.Core.List.{List}
 use mathlib.Core.Path.{_≡_, refl, sym, ap, _∙_}
-use native.Mathlib.Decide.{decLt}
 use native.Mathlib.Nat.{zero-mul}
 use native.Mathlib.Omega.{arith}
-use borrow.Author.Tests.{le-leb, lt-leb, eq-eqb, ne-eqb, eqb-true}
+use borrow.Author.Tests.{le-leb, lt-leb, eq-eqb, ne-eqb}
 use lib.Dec.{eqb}
 use lib.ListN.{length}
-use Rattle.octets.specs.Choice.{cond-yes, cond-no, either-way}
+use Rattle.octets.specs.Choice.{cond-yes, cond-no}
 use Rattle.octets.specs.Octets.{numberAt, spelled}
 use Rattle.octets.specs.OctetsLaws.{little-spelled}
 use Rattle.kinds.specs.Kinds.{numberOf, tokenOf, longestImage}
@@ -22,11 +21,11 @@ use Rattle.pieces.specs.PiecesLaws.{within, size-first, size-before, length-pie
 use Rattle.pieces.specs.PiecesLaws.{product-more}
 use Rattle.module.specs.Session.{largestFlash, largestPacket, longestIdle, session, stepped}
 use Rattle.module.specs.Session.{openable, openingOf, totalOf, held, takes}
-use Rattle.module.specs.SessionLaws.{Cut, cut-length, cut-total, facts-loading, facts-takes, takes-facts}
+use Rattle.module.specs.SessionLaws.{Cut, cut-length, facts-loading, facts-takes, takes-facts}
 use Rattle.module.specs.Rules.{parametersCommand, packetCommand, accepted, unmoved, taken, dataIn}
-use Rattle.module.specs.Rules.{kindDecision, parametersDecision, numbersIn, wellFormed, cutsInto, isPacket}
+use Rattle.module.specs.Rules.{kindDecision, parametersDecision, numbersIn}
 use Rattle.module.specs.Rules.{phaseAt, firstDecision, loadingDecision, phaseDecision, packetDecision, decideOf}
-use Rattle.module.specs.RulesLaws.{FormOf, formed-yes, CutOf, cut-yes, PacketOf, packet-yes, first-taken, next-taken}
+use Rattle.module.specs.RulesLaws.{formed-yes, cut-yes, packet-yes, first-taken, next-taken}
 use Rattle.module.specs.Step.{left, smallestReply, performed, frameStep, timeStep, stepOf}
 use Rattle.module.specs.Runs.{Offer, given, exchange}
 use Rattle.module.specs.RunsLaws.{step-taken}

@@ -1,12 +1,11 @@
 -- M4: the idle sum, what is refused, what is closed.
-use Prim.Native.Nat.{ℕ, _+_, _-_, _≤_, _<_}
-use mathlib.Core.Bool.{Bool, true, false, cond, false≢true}
+use Prim.Native.Nat.{ℕ, _+_, _-_, _<_}
+use mathlib.Core.Bool.{Bool, true, false, false≢true}
 use mathlib.Core.List.{List, [], _∷_, List·Memᴰ, List·Memᴰ·head}
 use mathlib.Core.Path.{_≡_, refl, sym, ap, _∙_}
 use native.Mathlib.Omega.{arith}
-use borrow.Author.Tests.{le-leb, lt-leb, leb-true, leb-false}
+use borrow.Author.Tests.{leb-false}
 use lib.Dec.{eqb, leb}
-use lib.ListN.{length}
 use Rattle.octets.specs.Choice.{either-way}
 use Rattle.module.specs.Session.{longestIdle, session, stepped, totalOf, takes, held, isClosed}
 use Rattle.module.specs.SessionLaws.{takes-facts}
@@ -18,7 +17,7 @@ use Rattle.module.specs.Runs.{Given, exchange, nextOf, isRefused, payloa
 use Rattle.module.specs.RunsLaws.{heard-performed}
 use Rattle.module.specs.Forward.{time-counted, time-closed}
 use Rattle.module.specs.Outcomes.{Outcome, stays, restarts, begins, advances, repeats, Step, refuses, sleeps, waits, hears, step-of, outcome-of}
-use Rattle.module.specs.Promises.{Closes, idle, restart, Idle, IdleRule, RefusedLeaves, ClosedLeaves}
+use Rattle.module.specs.Promises.{Closes, idle, restart, IdleRule, RefusedLeaves, ClosedLeaves}
 use Rattle.module.specs.declared.session.Pieces.{Pieces}
 use Rattle.module.specs.declared.session.Phase.{Phase}
 use Rattle.module.specs.declared.session.Phase.the-variants.{Closed, Ready, Begun, Loading, Done}
@@ -27,13 +26,13 @@ use Rattle.module.specs.declared.session.Stepped.{Stepped}
 use Rattle.module.specs.declared.session.Event.{Event}
 use Rattle.module.specs.declared.session.Event.the-variants.{Frame, Elapsed}
 use Rattle.module.specs.declared.session.Answer.{Answer}
-use Rattle.module.specs.declared.session.Answer.the-variants.{Nothing, Sent, Refused}
+use Rattle.module.specs.declared.session.Answer.the-variants.{Nothing, Refused}
 use Rattle.module.specs.declared.rules.Decision.{Decision}
 
 -- ---- time
 
 -- Time answers nothing, and closes only with a sum over 7,000.
-time-answer : (s : Session) (ms : ℕ) → timeStep s ms .answer ≡ Nothing
+pub time-answer : (s : Session) (ms : ℕ) → timeStep s ms .answer ≡ Nothing
 unfolding timeStep
 time-answer s ms = either-way (λ (r : Stepped). r .answer ≡ Nothing) (leb ms (longestIdle - s .idle)) (λ e. refl) (λ e. refl)
 

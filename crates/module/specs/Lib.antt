@@ -11,6 +11,10 @@ pub mod StepLaws
 pub mod RunsLaws
 pub mod Outcomes
 pub mod Forward
+pub mod Said
+pub mod Track
+pub mod Success
+pub mod Flash
 pub mod Idle
 pub mod Arises
 pub mod Reach

@@ -1,34 +1,34 @@
 -- What a frame can do to an open session, as five outcomes with the facts of each; and what a step can be.
-use Prim.Native.Nat.{ℕ, zero, suc, _+_, _*_, _-_, _≤_, _<_}
-use mathlib.Core.Bool.{Bool, true, false, cond, _&&_, false≢true}
-use mathlib.Core.List.{List, [], _∷_, _++_}
+use Prim.Native.Nat.{ℕ, _+_, _*_, _-_, _≤_, _<_}
+use mathlib.Core.Bool.{true, false}
+use mathlib.Core.List.{List}
 use mathlib.Core.Path.{_≡_, refl, sym, ap, _∙_}
 use native.Mathlib.Nat.{le-refl}
 use native.Mathlib.Omega.{arith}
-use borrow.Author.Tests.{leb-true, eqb-true, ltb-true, eqb-false}
-use lib.Dec.{eqb, leb, ltb}
-use lib.ListN.{length, take, drop, length-drop}
-use Rattle.octets.specs.Octets.{Bytes, numberAt, little, spelled, partOf, sameBytes}
-use Rattle.octets.specs.Choice.{both, either-way, cond-yes, cond-no}
+use borrow.Author.Tests.{eqb-true}
+use lib.Dec.{eqb, ltb}
+use lib.ListN.{length, length-drop}
+use Rattle.octets.specs.Octets.{Bytes, numberAt, partOf}
+use Rattle.octets.specs.Choice.{both, either-way}
 use Rattle.octets.specs.Lists.{bytes-take}
 use Rattle.octets.specs.PartLaws.{number-short}
-use Rattle.kinds.specs.Kinds.{kindOf, baseOf, tokenOf, fitsFlash}
+use Rattle.kinds.specs.Kinds.{kindOf, tokenOf, fitsFlash}
 use Rattle.kinds.specs.KindsLaws.{FitsFlash, fits-flash}
 use Rattle.kinds.specs.declared.Kind.{Kind}
 use Rattle.kinds.specs.declared.Known.{Known}
 use Rattle.kinds.specs.declared.Known.the-variants.{Is, Unknown}
 use Rattle.refusals.specs.Refusals.{noRoom, wrongLength}
-use Rattle.pieces.specs.Pieces.{countOf, offsetOf, sizeAt}
+use Rattle.pieces.specs.Pieces.{offsetOf, sizeAt}
 use Rattle.pieces.specs.PiecesLaws.{size-first}
 use Rattle.module.specs.Session.{largestPacket, largestTotal, totalOf, stepped, fits, held, takes}
-use Rattle.module.specs.SessionLaws.{Cut, cut-total, cut-length, LoadingOf, loading-facts, DoneOf, done-facts, takes-facts}
+use Rattle.module.specs.SessionLaws.{Cut, cut-total, loading-facts, done-facts, takes-facts}
 use Rattle.module.specs.Rules.{rateCommand, parametersCommand, packetCommand, restartCommand, accepted, wrongFirst, wrongSecond, notUnderstood}
-use Rattle.module.specs.Rules.{dataIn, unmoved, rateAck, rateDecision, kindDecision, knownDecision, parametersDecision, restartDecision}
-use Rattle.module.specs.Rules.{numbersIn, wellFormed, notTaken, cutsInto, placeOf, isPacket, isRepeat, acknowledged, taken}
+use Rattle.module.specs.Rules.{dataIn, unmoved, rateDecision, kindDecision, knownDecision, parametersDecision, restartDecision}
+use Rattle.module.specs.Rules.{numbersIn, wellFormed, notTaken, placeOf, isPacket, acknowledged, taken}
 use Rattle.module.specs.Rules.{repeatDecision, firstDecision, loadingDecision, doneDecision, phaseDecision, packetDecision, decideOf}
-use Rattle.module.specs.RulesLaws.{FormOf, formed, CutOf, cut-into, PacketOf, packet-is, RepeatOf, repeat-is}
+use Rattle.module.specs.RulesLaws.{formed, cut-into, PacketOf, packet-is, repeat-is}
 use Rattle.module.specs.Step.{Left, left, performed, timeStep, frameStep, eventStep, stepOf, smallestReply}
-use Rattle.module.specs.Runs.{Given, Exchange, exchange, payloadOf, payloadIn}
+use Rattle.module.specs.Runs.{Given, exchange, payloadOf, payloadIn}
 use Rattle.module.specs.declared.session.Transfer.{Transfer}
 use Rattle.module.specs.declared.session.Pieces.{Pieces}
 use Rattle.module.specs.declared.session.Phase.{Phase}
@@ -39,9 +39,8 @@ use Rattle.module.specs.declared.session.Event.the-variants.{Frame, Elap
 use Rattle.module.specs.declared.session.Answer.the-variants as answer
 use Rattle.module.specs.declared.rules.Say.{Say}
 use Rattle.module.specs.declared.rules.Say.the-variants.{Nothing, Rate, Parameters, Packet, Last, Restart}
-use Rattle.module.specs.declared.rules.Put.the-variants.{Nowhere, At}
+use Rattle.module.specs.declared.rules.Put.the-variants.{Nowhere}
 use Rattle.module.specs.declared.rules.Decision.{Decision}
-use Rattle.module.specs.declared.rules.Numbers.{Numbers}
 
 -- ---- the outcomes
 

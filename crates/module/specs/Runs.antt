@@ -1,6 +1,6 @@
 -- Runs of the module: its step's definition folded over what it is given, and what a reader hears in its replies.
 use Prim.Native.Nat.{ℕ}
-use mathlib.Core.Bool.{Bool, true, false, cond}
+use mathlib.Core.Bool.{Bool, true, false}
 use mathlib.Core.List.{List, [], _∷_, map, List·Memᴰ}
 use lib.ListN.{take}
 use Rattle.octets.specs.Octets.{Bytes}

@@ -1,5 +1,5 @@
 -- The laws of Runs: what one step is, what is heard in a reply, runs one behind the other.
-use Prim.Native.Nat.{ℕ, _+_, _-_, _≤_}
+use Prim.Native.Nat.{ℕ, _+_, _≤_}
 use mathlib.Core.Bool.{true}
 use mathlib.Core.List.{List, [], _∷_, _++_, map}
 use mathlib.Core.Path.{_≡_, refl, ap, _∙_}
@@ -9,15 +9,14 @@ use lib.ListN.{length, take}
 use Rattle.octets.specs.Octets.{spelled, over}
 use Rattle.octets.specs.OctetsLaws.{take-over}
 use Rattle.wire.specs.Frame.{Frame, longestPayload, wireOf}
-use Rattle.reader.specs.Runs.{Placed, placed, handedOf}
-use Rattle.reader.specs.Reader.{fresh}
+use Rattle.reader.specs.Runs.{Placed}
 use Rattle.reader.specs.Seen.{Seen, outside, seenAfter, seenHanded}
 use Rattle.reader.specs.SeenLaws.{fresh-handed, handed-append}
 use Rattle.reader.specs.Feed.{handed-frame}
 use Rattle.module.specs.Session.{takes}
-use Rattle.module.specs.Rules.{framesOf, decideOf}
-use Rattle.module.specs.Step.{Left, smallestReply, wiresOf, answerOf, performed, eventStep, stepOf}
-use Rattle.module.specs.Runs.{Given, Exchange, Offer, exchange, given, nextOf, afterOf, runOf, carried, carriedAfter, heardIn, sentBy, countIn}
+use Rattle.module.specs.Rules.{framesOf}
+use Rattle.module.specs.Step.{smallestReply, wiresOf, answerOf, performed, eventStep, stepOf}
+use Rattle.module.specs.Runs.{Given, Exchange, Offer, exchange, given, nextOf, afterOf, carried, carriedAfter, heardIn, sentBy, countIn}
 use Rattle.module.specs.declared.session.Session.{Session}
 use Rattle.module.specs.declared.session.Event.{Event}
 use Rattle.module.specs.declared.rules.Decision.{Decision}

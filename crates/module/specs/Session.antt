@@ -13,7 +13,7 @@ use Rattle.module.specs.declared.session.Phase.{Phase}
 use Rattle.module.specs.declared.session.Phase.the-variants.{Closed, Ready, Begun, Loading, Done}
 use Rattle.module.specs.declared.session.Session.{Session}
 use Rattle.module.specs.declared.session.Answer.{Answer}
-use Rattle.module.specs.declared.session.Answer.the-variants.{Nothing, Sent, Refused}
+use Rattle.module.specs.declared.session.Answer.the-variants.{Nothing, Refused}
 use Rattle.module.specs.declared.session.Stepped.{Stepped}
 
 -- The largest flash, the longest idle sum of an open session, the largest packet and the largest Total.

@@ -1,6 +1,8 @@
 -- Facts about lists and bytes that several crates use.
 use Prim.Native.Nat.{ℕ, zero, suc, _+_, _-_, _/_, _≤_, _<_, min}
 use mathlib.Core.List.{List, [], _∷_, _++_, map, List·Memᴰ, List·Memᴰ·head, List·Memᴰ·tail}
+use mathlib.Core.List.{List·Memᴰ·append-cases, List·Memᴰ·eq-of-singleton}
+use mathlib.Core.Logic.{⊎-elim}
 use mathlib.Core.Path.{_≡_, sym}
 use native.Mathlib.Decide.{decLe}
 use native.Mathlib.Nat.{min-eq-left, min-eq-right}
@@ -20,6 +22,12 @@ part-take m (suc n) (suc k) (x ∷ l) h = part-take m n k l (omega arith)
 pub same-each : {A B : Type 0} (f g : A → B) (l : List A) → map f l ≡ map g l → (a : A) → List·Memᴰ a l → f a ≡ g a
 same-each f g (x ∷ l) e a (List·Memᴰ·head p) = cc
 same-each f g (x ∷ l) e a (List·Memᴰ·tail m) = same-each f g l (cc) a m
+
+-- What holds of each element of a list and of one more holds of each of the list with that one behind it.
+pub each-more : {A : Type 0} (P : A → Type 0) (l : List A) (a : A) → ((x : A) → List·Memᴰ x l → P x) → P a
+    → (x : A) → List·Memᴰ x (l ++ (a ∷ [])) → P x
+each-more P l a h p x m =
+    ⊎-elim (h x) (λ (n : List·Memᴰ x (a ∷ [])). rw (List·Memᴰ·eq-of-singleton n) p) (List·Memᴰ·append-cases l m)
 
 -- The front of a list of bytes, what is left of one, one with a byte or bytes behind it, one byte many times and a number's
 -- spelling are bytes; each place holds a byte.

@@ -10,8 +10,9 @@ use native.Mathlib.Omega.{arith}
 use borrow.Author.Tests.{eq-eqb, eqb-true, ne-eqb}
 use lib.Bits.{bitXor}
 use lib.Dec.{eqb, lit<}
-use lib.ListN.{length, getD, take, drop, set, length-append, length-drop, drop-of-length-le, take-append-drop}
+use lib.ListN.{length, getD, take, drop, set, length-append, length-drop, drop-of-length-le, take-append-drop, List·getD-append}
 use lib.Seq.{take-suc, drop-cons, drop-length, take-length, take-all, take-nil, drop-nil, set-append-seam, append-snoc, paste, sets, take-at, drop-append-add, drop-drop, length-take-le}
+use lib.Seq.{getD-append-add, getD-take, getD-drop}
 use Rattle.octets.specs.Choice.{both}
 use Rattle.octets.specs.Octets.{textLength, xorWordsFrom, Bytes, little, spelled, numberAt, xorFrom, xorOf, allZero, sameBytes, laid, over}
 
@@ -101,6 +102,11 @@ unfolding laid
 laid-past d at s h =
     let none : length d - at ≡ 0 = omega arith in
     rw (take-all at d h, none, drop-of-length-le d (le-trans h (le-add-right at (length s))), append-nil)
+
+-- No byte laid changes nothing.
+pub laid-nothing : (d : List ℕ) (at : ℕ) → laid d at [] ≡ d
+unfolding laid
+laid-nothing d at = let none : at + 0 ≡ at = omega arith in rw (take-nil (length d - at), none) (take-append-drop at d)
 
 -- What a copy of as many bytes as fit leaves.
 pub laid-paste : (d : List ℕ) (at : ℕ) (s : List ℕ) → at ≤ length d → laid d at s ≡ paste d at s (min (length s) (length d - at))
@@ -255,21 +261,41 @@ laid-over d at s h =
     ap (λ (l : List ℕ). laid l at s) (sym (over-take at d (omega arith)))
     ∙ over-laid (take at d) d s at (length-take-le at d (omega arith)) h
 
--- Nothing laid anywhere changes nothing.
-pub laid-nothing : (d : List ℕ) (at : ℕ) → laid d at [] ≡ d
-unfolding laid
-laid-nothing d at = rw (take-nil (length d - at), add-zero at) (take-append-drop at d)
-
--- A run that fits leaves the buffer as long as it was.
-pub laid-long : (d : List ℕ) (at : ℕ) (s : List ℕ) → at + length s ≤ length d → length (laid d at s) ≡ length d
-laid-long d at s h =
-    let front : length (take at d ++ s) ≤ length d = rw (length-append, length-take-le at d (omega arith)) h in
-    rw (laid-over d at s h) (length-over (take at d ++ s) d front)
+-- A front and a run behind it are as long as both together.
+front-size : (d : List ℕ) (at : ℕ) (s : List ℕ) → at ≤ length d → length (take at d ++ s) ≡ at + length s
+front-size d at s h = length-append (take at d) s ∙ rw (length-take-le at d h)
 
 -- A run laid behind another is both laid as one.
 pub laid-next : (d : List ℕ) (at : ℕ) (s t : List ℕ) → at + length s + length t ≤ length d
     → laid (laid d at s) (at + length s) t ≡ laid d at (s ++ t)
 laid-next d at s t h =
-    let front : length (take at d ++ s) ≡ at + length s = length-append (take at d) s ∙ rw (length-take-le at d (omega arith)) in
-    rw (laid-over d at s (omega arith), over-laid (take at d ++ s) d t (at + length s) front h, append-assoc)
+    rw (laid-over d at s (omega arith), over-laid (take at d ++ s) d t (at + length s) (front-size d at s (omega arith)) h, append-assoc)
     (sym (laid-over d at (s ++ t) (rw length-append (omega arith))))
+
+-- ---- what a run that fits leaves of the buffer
+
+-- Its length.
+pub laid-length : (d : List ℕ) (at : ℕ) (s : List ℕ) → at + length s ≤ length d → length (laid d at s) ≡ length d
+laid-length d at s h =
+    ap length (laid-over d at s h)
+    ∙ length-over (take at d ++ s) d (rw (front-size d at s (omega arith)) h)
+
+-- Each byte before the run, and each byte behind it.
+pub laid-before : (d : List ℕ) (at : ℕ) (s : List ℕ) (i : ℕ) → at ≤ length d → i < at → getD (laid d at s) i 0 ≡ getD d i 0
+unfolding laid
+laid-before d at s i h less =
+    List·getD-append (take at d) _ 0 i (rw (length-take-le at d h) less) ∙ getD-take at d i 0 less
+
+pub laid-behind : (d : List ℕ) (at : ℕ) (s : List ℕ) (i : ℕ) → at + length s ≤ length d → at + length s ≤ i
+    → getD (laid d at s) i 0 ≡ getD d i 0
+unfolding over
+laid-behind d at s i h far =
+    let front : List ℕ = take at d ++ s in
+    let n = length front in
+    let size : n ≡ at + length s = front-size d at s (omega arith) in
+    let there : n + (i - n) ≡ i = omega (arith, size) in
+    ap (λ (l : List ℕ). getD l i 0) (laid-over d at s h)
+    ∙ ap (λ (j : ℕ). getD (front ++ drop n d) j 0) (sym there)
+    ∙ getD-append-add front (drop n d) (i - n) 0
+    ∙ getD-drop n d (i - n) 0
+    ∙ ap (λ (j : ℕ). getD d j 0) there

@@ -1,5 +1,5 @@
 -- The laws of parts: pieces laid end to end and found again, the number that a part spells, runs of zeros, the xor of words.
-use Prim.Native.Nat.{ℕ, zero, suc, _+_, _^_, _≤_, _<_}
+use Prim.Native.Nat.{ℕ, zero, suc, _+_, _-_, _^_, _≤_, _<_}
 use mathlib.Core.Bool.{Bool, true, _&&_}
 use mathlib.Core.List.{List, [], _∷_, _++_, append-assoc, append-nil}
 use mathlib.Core.Path.{_≡_, refl, sym, ap, ap₂, _∙_}
@@ -9,11 +9,12 @@ use borrow.Author.Tests.{eqb-true}
 use lib.Bits.{bitXor, xor-lt}
 use lib.Dec.{eqb}
 use lib.ListN.{length, take, drop, replicate, length-append, length-drop}
-use lib.Seq.{take-at, drop-at, drop-drop, take-add, length-take-le}
+use lib.Seq.{take-at, take-all, drop-at, drop-drop, take-add, length-take-le}
 use Rattle.octets.specs.Choice.{both, by-test}
 use Rattle.octets.specs.Lists.{bytes-take, bytes-drop}
-use Rattle.octets.specs.Octets.{Pieces, endToEnd, layAll, over, Bytes, little, spelled, numberAt, partOf, allZero, textLength, zeroFilled, xorWordsFrom}
-use Rattle.octets.specs.OctetsLaws.{little-spelled, spelled-little, over-laid}
+use Rattle.octets.specs.Octets.{Pieces, endToEnd, layAll, laid, over}
+use Rattle.octets.specs.Octets.{Bytes, little, spelled, numberAt, partOf, allZero, textLength, zeroFilled, xorWordsFrom}
+use Rattle.octets.specs.OctetsLaws.{little-spelled, spelled-little, over-laid, laid-next, laid-length}
 
 -- ---- a part
 
@@ -31,6 +32,19 @@ bytes-part s at n h = bytes-take n (drop at s) (bytes-drop at s h)
 pub part-add : (s : List ℕ) (at n m : ℕ) → partOf s at n ++ partOf s (at + n) m ≡ partOf s at (n + m)
 unfolding partOf
 part-add s at n m = rw (← drop-drop n at s) (sym (take-add n m (drop at s)))
+
+-- A run that fits, laid anywhere, is the part there.
+pub part-laid : (d : List ℕ) (at : ℕ) (s : List ℕ) → at + length s ≤ length d → partOf (laid d at s) at (length s) ≡ s
+unfolding partOf laid
+part-laid d at s h =
+    rw (drop-at (take at d) _ at (length-take-le at d (omega arith)), take-all (length d - at) s (omega arith))
+    (take-at s (drop (at + length s) d) (length s) refl)
+
+-- Of two runs laid as one, the second is the part behind the first.
+pub part-behind : (d : List ℕ) (at : ℕ) (s t : List ℕ) → at + length s + length t ≤ length d
+    → partOf (laid d at (s ++ t)) (at + length s) (length t) ≡ t
+part-behind d at s t h =
+    rw (← laid-next d at s t h) (part-laid (laid d at s) (at + length s) t (rw (laid-length d at s (omega arith)) h))
 
 -- ---- pieces laid end to end
 
