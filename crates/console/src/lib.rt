@@ -9,6 +9,7 @@ pub use files::write_whole;
 pub use show::number;
 pub use show::placed;
 pub use show::refusal;
+pub use show::row;
 pub use show::say;
 pub use show::text;
 pub use show::word;

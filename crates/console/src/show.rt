@@ -55,6 +55,28 @@ pub fn word(x: u32) {
     say(&digits[..n]);
 }
 
+// Bytes in hex with a space before each, filled up with spaces to so many places.
+pub fn row(bytes: &[u8], places: usize) {
+    let n = larger(bytes.len(), places);
+    let mut i = 0;
+    while i < n {
+        place(octets::part(bytes, i, 1));
+        i += 1;
+    }
+}
+
+fn larger(a: usize, b: usize) -> usize {
+    if a < b { b } else { a }
+}
+
+// One place of a row: a byte, or none.
+fn place(byte: &[u8]) {
+    let mut digits = [b' '; 2];
+    hex::show(byte, &mut digits);
+    say(b" ");
+    say(&digits);
+}
+
 // A text up to its first zero. A byte that no screen should get is shown as a dot.
 pub fn text(field: &[u8]) {
     let mut i = 0;
