@@ -16,14 +16,15 @@ use Rattle.kinds.specs.KindsLaws.{FitsFlash}
 use Rattle.kinds.specs.declared.Kind.{Kind}
 use Rattle.pieces.specs.Pieces.{countOf, sizeAt, pieceOf}
 use Rattle.pieces.specs.PiecesLaws.{within, take-more, take-whole, count-whole, count-only}
+use Rattle.commands.specs.Commands.{packetCommand, parametersCommand, accepted, packetReply, notice, parametersFor, packetFor}
 use Rattle.module.specs.Session.{largestFlash, longestIdle, totalOf, session, takes}
 use Rattle.module.specs.SessionLaws.{Cut, cut-length, cut-total, takes-facts}
-use Rattle.module.specs.Rules.{packetCommand, parametersCommand, accepted, packetReply, notice, framesOf, stateOf}
+use Rattle.module.specs.Rules.{framesOf, stateOf}
 use Rattle.module.specs.Rules.{placeOf, taken}
 use Rattle.module.specs.Step.{Left, performed, stepOf, smallestReply}
 use Rattle.module.specs.Runs.{Exchange, exchange, given, Offer, carried, carriedAfter, heardIn, sentBy}
 use Rattle.module.specs.RunsLaws.{heard-performed, carried-append}
-use Rattle.module.specs.Promises.{Pause, Frames, parametersFor, packetFor, PacketFirst, PacketsFrom, CleanTransfer, Fits}
+use Rattle.module.specs.Promises.{Pause, Frames, PacketFirst, PacketsFrom, CleanTransfer, Fits}
 use Rattle.module.specs.Promises.{EndsInSuccess, CleanSucceeds}
 use Rattle.module.specs.Forward.{transferFor, parameters-accepted, Carries, piece-facts, data-read, waiting, waiting-none}
 use Rattle.module.specs.Forward.{waiting-takes, writtenWith, packet-taken, taken-waits, taken-done, frame-taken, time-counted}
@@ -270,11 +271,11 @@ packets-end p image flash (suc m) n os c most total h =
 
 -- What the parameters leave: the transfer has begun, and the flash is as lent.
 parameters-leave : (s : Session) (flash : List ℕ) (kind : Kind) (image : List ℕ) (o : Offer) → takes s ≡ true → length flash ≡ s .flash
-    → FitsFlash kind (length image) (length flash) → Frames parametersCommand (parametersFor kind image) o
+    → FitsFlash kind (length image) (length flash) → Frames parametersCommand (parametersFor kind (length image)) o
     → let l = exchange s (given flash o) .left in
     (l .session ≡ session (length flash) 0 (Begun (transferFor kind image))) × (l .flash ≡ flash)
 parameters-leave s flash kind image o t long fits f =
-    let payload = parametersFor kind image in
+    let payload = parametersFor kind (length image) in
     let leaves = frame-taken s parametersCommand payload flash o t long f in
     let decides = parameters-accepted (s .phase) kind image flash fits in
     rw (leaves, decides, long) (refl, refl)

@@ -19,17 +19,18 @@ use Rattle.kinds.specs.declared.Kind.the-variants.{Navigation, Upgrade, Paramet
 use Rattle.pieces.specs.Pieces.{countOf, sizeAt, pieceOf}
 use Rattle.pieces.specs.PiecesLaws.{within, size-first, size-before, length-piece, ends-with}
 use Rattle.pieces.specs.PiecesLaws.{product-more}
-use Rattle.module.specs.Session.{largestFlash, largestPacket, longestIdle, session, stepped}
+use Rattle.commands.specs.Commands.{largestPacket, parametersCommand, packetCommand, accepted, parametersFor, packetFor}
+use Rattle.module.specs.Session.{largestFlash, longestIdle, session, stepped}
 use Rattle.module.specs.Session.{openable, openingOf, totalOf, held, takes}
 use Rattle.module.specs.SessionLaws.{Cut, cut-length, facts-loading, facts-takes, takes-facts}
-use Rattle.module.specs.Rules.{parametersCommand, packetCommand, accepted, unmoved, taken, dataIn}
+use Rattle.module.specs.Rules.{unmoved, taken, dataIn}
 use Rattle.module.specs.Rules.{kindDecision, parametersDecision, numbersIn}
 use Rattle.module.specs.Rules.{phaseAt, firstDecision, loadingDecision, phaseDecision, packetDecision, decideOf}
 use Rattle.module.specs.RulesLaws.{formed-yes, cut-yes, packet-yes, first-taken, next-taken}
 use Rattle.module.specs.Step.{left, smallestReply, performed, frameStep, timeStep, stepOf}
 use Rattle.module.specs.Runs.{Offer, given, exchange}
 use Rattle.module.specs.RunsLaws.{step-taken}
-use Rattle.module.specs.Promises.{opened, Frames, parametersFor, packetFor}
+use Rattle.module.specs.Promises.{opened, Frames}
 use Rattle.module.specs.declared.session.Transfer.{Transfer}
 use Rattle.module.specs.declared.session.Pieces.{Pieces}
 use Rattle.module.specs.declared.session.Phase.{Phase}
@@ -67,25 +68,25 @@ token-spelled Upgrade = omega arith
 token-spelled Parameters = omega arith
 
 -- The three numbers of the parameters for an image are read again.
-type-read : (kind : Kind) (image : List ℕ) → numberAt 2 (parametersFor kind image) 0 ≡ numberOf kind
+type-read : (kind : Kind) (image : List ℕ) → numberAt 2 (parametersFor kind (length image)) 0 ≡ numberOf kind
 unfolding numberAt spelled
 type-read kind image = little-spelled 2 (numberOf kind) (kind-spelled kind .0)
 
-length-read : (kind : Kind) (image : List ℕ) → length image ≤ longestImage → numberAt 4 (parametersFor kind image) 2 ≡ length image
+length-read : (kind : Kind) (image : List ℕ) → length image ≤ longestImage → numberAt 4 (parametersFor kind (length image)) 2 ≡ length image
 unfolding numberAt spelled
 length-read kind image h = little-spelled 4 (length image) (omega arith)
 
-address-read : (kind : Kind) (image : List ℕ) → numberAt 4 (parametersFor kind image) 6 ≡ tokenOf kind
+address-read : (kind : Kind) (image : List ℕ) → numberAt 4 (parametersFor kind (length image)) 6 ≡ tokenOf kind
 unfolding numberAt spelled
 address-read kind image = little-spelled 4 (tokenOf kind) (token-spelled kind)
 
-parameters-long : (kind : Kind) (image : List ℕ) → length (parametersFor kind image) ≡ 10
+parameters-long : (kind : Kind) (image : List ℕ) → length (parametersFor kind (length image)) ≡ 10
 unfolding spelled
 parameters-long kind image = refl
 
 -- The parameters for an image that fits the flash are accepted in any phase.
 pub parameters-accepted : (phase : Phase) (kind : Kind) (image flash : List ℕ) → FitsFlash kind (length image) (length flash)
-    → decideOf phase parametersCommand (parametersFor kind image) flash
+    → decideOf phase parametersCommand (parametersFor kind (length image)) flash
     ≡ unmoved (Begun (transferFor kind image)) (say.Parameters accepted)
 unfolding decideOf parametersDecision kindDecision
 parameters-accepted phase kind image flash f =

@@ -7,11 +7,12 @@ use native.Mathlib.Omega.{arith}
 use borrow.Author.Tests.{leb-false}
 use lib.Dec.{eqb, leb}
 use Rattle.octets.specs.Choice.{either-way}
+use Rattle.commands.specs.Commands.{restartCommand, restartReply, accepted}
 use Rattle.module.specs.Session.{longestIdle, session, stepped, totalOf, takes, held, isClosed}
 use Rattle.module.specs.SessionLaws.{takes-facts}
 use Rattle.octets.specs.Octets.{Bytes}
 use Rattle.wire.specs.Frame as wire
-use Rattle.module.specs.Rules.{restartCommand, restartReply, accepted, framesOf, phaseAt, decideOf}
+use Rattle.module.specs.Rules.{framesOf, phaseAt, decideOf}
 use Rattle.module.specs.Step.{Left, left, timeStep, answerOf}
 use Rattle.module.specs.Runs.{Given, exchange, nextOf, isRefused, payloadOf}
 use Rattle.module.specs.RunsLaws.{heard-performed}

@@ -20,9 +20,9 @@ use Rattle.kinds.specs.declared.Known.the-variants.{Is, Unknown}
 use Rattle.refusals.specs.Refusals.{noRoom, wrongLength}
 use Rattle.pieces.specs.Pieces.{offsetOf, sizeAt}
 use Rattle.pieces.specs.PiecesLaws.{size-first}
-use Rattle.module.specs.Session.{largestPacket, largestTotal, totalOf, stepped, fits, held, takes}
+use Rattle.commands.specs.Commands.{largestPacket, largestTotal, rateCommand, parametersCommand, packetCommand, restartCommand, accepted, wrongFirst, wrongSecond, notUnderstood}
+use Rattle.module.specs.Session.{totalOf, stepped, fits, held, takes}
 use Rattle.module.specs.SessionLaws.{Cut, cut-total, loading-facts, done-facts, takes-facts}
-use Rattle.module.specs.Rules.{rateCommand, parametersCommand, packetCommand, restartCommand, accepted, wrongFirst, wrongSecond, notUnderstood}
 use Rattle.module.specs.Rules.{dataIn, unmoved, rateDecision, kindDecision, knownDecision, parametersDecision, restartDecision}
 use Rattle.module.specs.Rules.{numbersIn, wellFormed, notTaken, placeOf, isPacket, acknowledged, taken}
 use Rattle.module.specs.Rules.{repeatDecision, firstDecision, loadingDecision, doneDecision, phaseDecision, packetDecision, decideOf}

@@ -9,10 +9,11 @@ use Rattle.kinds.specs.Kinds.{kindOf, baseOf, numberOf, tokenOf, longestImage}
 use Rattle.kinds.specs.declared.Kind.{Kind}
 use Rattle.kinds.specs.declared.Known.{Known}
 use Rattle.kinds.specs.declared.Known.the-variants.{Is, Unknown}
-use Rattle.pieces.specs.Pieces.{countOf, pieceOf}
-use Rattle.module.specs.Session.{largestPacket, largestTotal, session, stepped, openingOf, takes, isClosed, arises}
-use Rattle.module.specs.Rules.{parametersCommand, packetCommand, restartCommand, accepted, dataIn}
-use Rattle.module.specs.Rules.{parametersReply, packetReply, restartReply, notice}
+use Rattle.pieces.specs.Pieces.{countOf}
+use Rattle.commands.specs.Commands.{parametersFor, packetFor}
+use Rattle.commands.specs.Commands.{largestPacket, largestTotal, parametersCommand, packetCommand, restartCommand, accepted, parametersReply, packetReply, restartReply, notice}
+use Rattle.module.specs.Session.{session, stepped, openingOf, takes, isClosed, arises}
+use Rattle.module.specs.Rules.{dataIn}
 use Rattle.module.specs.Step.{left, smallestReply, stepOf}
 use Rattle.module.specs.Runs.{Given, Exchange, exchange, nextOf, afterOf, runOf, AllBytes, isRefused, Says, payloadOf}
 use Rattle.module.specs.Runs.{Offer, carried}
@@ -32,8 +33,8 @@ opened flash = openingOf flash .session
 pub record LastParameters (history : List Exchange) (parameters : Exchange) (since : List Exchange) : Type 0 where
   pub before : List Exchange
   pub split : history ≡ before ++ (parameters ∷ since)
-  pub accepts : Says parameters (parametersReply accepted)
-  pub no-later : (x : Exchange) → List·Memᴰ x since → Says x (parametersReply accepted) → ⊥
+  pub accepts : Says parameters (parametersReply largestPacket accepted)
+  pub no-later : (x : Exchange) → List·Memᴰ x since → Says x (parametersReply largestPacket accepted) → ⊥
 
 -- An exchange of some exchanges whose reply acknowledges a packet.
 pub record Acknowledged (number : ℕ) (xs : List Exchange) : Type 0 where
@@ -166,16 +167,6 @@ pub record Frames (command : ℕ) (payload : List ℕ) (o : Offer) : Type 0 wher
   pub payload-is : take count (o .payload) ≡ payload
   pub room : smallestReply ≤ length (o .reply)
 
--- The payload of 0x02 for an image: type, length, token.
-abbrev pub parametersFor : Kind → List ℕ → List ℕ
-parametersFor kind image = spelled 2 (numberOf kind) ++ (spelled 4 (length image) ++ spelled 4 (tokenOf kind))
-
--- The payload of 0x05 for a piece: Total, PkNo, PkSize, data.
-abbrev pub packetFor : List ℕ → ℕ → ℕ → List ℕ
-packetFor image size k =
-    spelled 2 (countOf (length image) size)
-    ++ (spelled 2 k ++ (spelled 2 (length (pieceOf image size k)) ++ pieceOf image size k))
-
 -- Offers begin with a pause and packet k; what follows is as said.
 pub record PacketFirst (image : List ℕ) (size k : ℕ) (os : List Offer) (Rest : List Offer → Type 0) : Type 0 where
   pub pause : List Offer
@@ -198,7 +189,7 @@ pub record CleanTransfer (idle : ℕ) (kind : Kind) (image : List ℕ) (size : �
   pub packets : List Offer
   pub split : os ≡ pause ++ (parameters ∷ packets)
   pub paused : Pause idle pause
-  pub declares : Frames parametersCommand (parametersFor kind image) parameters
+  pub declares : Frames parametersCommand (parametersFor kind (length image)) parameters
   pub sends : PacketsFrom image size (countOf (length image) size) 1 packets
 
 -- The transfer fits: an image of 1 to 262,143 bytes that lies within the flash from its base on, in pieces of 1 to 1,024 bytes, at

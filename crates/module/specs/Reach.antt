@@ -17,14 +17,15 @@ use Rattle.octets.specs.PartLaws.{bytes-part}
 use Rattle.kinds.specs.Kinds.{numberOf, tokenOf}
 use Rattle.kinds.specs.KindsLaws.{FitsFlash, fits-flash}
 use Rattle.pieces.specs.Pieces.{countOf, offsetOf, pieceOf}
+use Rattle.commands.specs.Commands.{parametersCommand, packetCommand, restartCommand, parametersFor, packetFor}
 use Rattle.module.specs.Session.{longestIdle, totalOf, session, openable, held, takes, isClosed, closedArises, arises}
 use Rattle.module.specs.SessionLaws.{openable-sizes, sizes-openable, Cut, cut-total, loading-facts, done-facts}
 use Rattle.module.specs.SessionLaws.{facts-takes, takes-facts}
-use Rattle.module.specs.Rules.{parametersCommand, packetCommand, restartCommand, phaseAt, restartDecision, decideOf}
+use Rattle.module.specs.Rules.{phaseAt, restartDecision, decideOf}
 use Rattle.module.specs.Step.{Left, smallestReply}
 use Rattle.module.specs.Runs.{Given, Offer, given, nextOf, afterOf}
 use Rattle.module.specs.RunsLaws.{after-append}
-use Rattle.module.specs.Promises.{opened, Frames, parametersFor, packetFor, RealEvent, Real, AllReal, Reached, ArisesReached}
+use Rattle.module.specs.Promises.{opened, Frames, RealEvent, Real, AllReal, Reached, ArisesReached}
 use Rattle.module.specs.Forward.{opened-ready, opened-closed, parameters-accepted, Carries}
 use Rattle.module.specs.Forward.{waiting, waiting-none, waiting-some, waiting-takes, packet-taken}
 use Rattle.module.specs.Forward.{writtenWith, taken-waits, taken-done, frame-taken, counted-takes, time-counted, time-closed}
@@ -113,7 +114,7 @@ reach-begun : (t : Transfer) (flash : ℕ) → openable flash ≡ true → FitsF
     → Reached (session flash 0 (Begun t))
 reach-begun t flash can f =
     let image = zeros (t .length) in
-    let payload = parametersFor (t .kind) image in
+    let payload = parametersFor (t .kind) (length image) in
     let fits : FitsFlash (t .kind) (length image) (length (zeros flash)) = rw (zeros-long (t .length), zeros-long flash) f in
     let decides : decideOf Ready parametersCommand payload (zeros flash) .phase ≡ Begun t =
     rw (parameters-accepted Ready (t .kind) image (zeros flash) fits, zeros-long (t .length)) in

@@ -10,8 +10,10 @@ use Rattle.kinds.specs.declared.Kind.{Kind}
 use Rattle.kinds.specs.declared.Known.{Known}
 use Rattle.kinds.specs.declared.Known.the-variants.{Is, Unknown}
 use Rattle.pieces.specs.Pieces.{countOf, sizeAt, offsetOf}
+use Rattle.commands.specs.Commands.{rateCommand, parametersCommand, packetCommand, restartCommand, accepted, wrongFirst, wrongSecond, notUnderstood}
+use Rattle.commands.specs.Commands.{largestPacket, rateReply, parametersReply, packetReply, restartReply, notice}
 use Rattle.wire.specs.Frame.{Frame}
-use Rattle.module.specs.Session.{largestPacket, totalOf}
+use Rattle.module.specs.Session.{totalOf}
 use Rattle.module.specs.declared.session.Transfer.{Transfer}
 use Rattle.module.specs.declared.session.Pieces.{Pieces}
 use Rattle.module.specs.declared.session.Phase.{Phase}
@@ -23,61 +25,13 @@ use Rattle.module.specs.declared.rules.Put.the-variants.{Nowhere, At}
 use Rattle.module.specs.declared.rules.Decision.{Decision}
 use Rattle.module.specs.declared.rules.Numbers.{Numbers}
 
--- The commands, and the notice.
-abbrev pub rateCommand : ℕ
-rateCommand = 0x01
-
-abbrev pub parametersCommand : ℕ
-parametersCommand = 0x02
-
-abbrev pub packetCommand : ℕ
-packetCommand = 0x05
-
-abbrev pub restartCommand : ℕ
-restartCommand = 0x06
-
-abbrev pub noticeCommand : ℕ
-noticeCommand = 0x86
-
--- The acknowledgements: accepted, refused for the first or the second reason of a command, not understood.
-abbrev pub accepted : ℕ
-accepted = 0x00
-
-abbrev pub wrongFirst : ℕ
-wrongFirst = 0x01
-
-abbrev pub wrongSecond : ℕ
-wrongSecond = 0x02
-
-abbrev pub notUnderstood : ℕ
-notUnderstood = 0x10
-
 -- ---- what is said
 
-abbrev pub frame : ℕ → List ℕ → Frame
-frame command payload = record { command = command; payload = payload }
-
--- The answers of document 001: rate and ACK; MaxPk, always 1,024, and ACK; PkNo and ACK; ACK; and the notice with its State.
-abbrev pub rateReply : ℕ → ℕ → Frame
-rateReply rate ack = frame rateCommand (rate ∷ ack ∷ [])
-
-abbrev pub parametersReply : ℕ → Frame
-parametersReply ack = frame parametersCommand (spelled 2 largestPacket ++ (ack ∷ []))
-
-abbrev pub packetReply : ℕ → ℕ → Frame
-packetReply number ack = frame packetCommand (spelled 2 number ++ (ack ∷ []))
-
-abbrev pub restartReply : ℕ → Frame
-restartReply ack = frame restartCommand (ack ∷ [])
-
-abbrev pub notice : ℕ → Frame
-notice state = frame noticeCommand (state ∷ [])
-
--- The frames of a reply. After the last packet the acknowledgement is followed by the notice.
+-- The frames of a reply. MaxPk is always 1,024. After the last packet the acknowledgement is followed by the notice.
 abbrev pub framesOf : Say → List Frame
 framesOf Nothing = []
 framesOf (Rate rate ack) = rateReply rate ack ∷ []
-framesOf (Parameters ack) = parametersReply ack ∷ []
+framesOf (Parameters ack) = parametersReply largestPacket ack ∷ []
 framesOf (Packet number ack) = packetReply number ack ∷ []
 framesOf (Last number state) = packetReply number accepted ∷ notice state ∷ []
 framesOf (Restart ack) = restartReply ack ∷ []

@@ -17,9 +17,8 @@ use Rattle.kinds.specs.KindsLaws.{base-short}
 use Rattle.kinds.specs.declared.Kind.{Kind}
 use Rattle.pieces.specs.Pieces.{countOf, sizeAt, offsetOf}
 use Rattle.pieces.specs.PiecesLaws.{count-many, count-some, count-one, count-whole}
-use Rattle.module.specs.Session.{largestPacket, totalOf}
-use Rattle.module.specs.Rules.{accepted, wrongFirst, wrongSecond, notUnderstood}
-use Rattle.module.specs.Rules.{rateCommand, parametersCommand, packetCommand, restartCommand}
+use Rattle.commands.specs.Commands.{largestPacket, accepted, wrongFirst, wrongSecond, notUnderstood, rateCommand, parametersCommand, packetCommand, restartCommand}
+use Rattle.module.specs.Session.{totalOf}
 use Rattle.module.specs.Rules.{unmoved, rateAck, rateDecision, kindDecision, knownDecision, parametersDecision, restartDecision}
 use Rattle.module.specs.Rules.{numbersIn, wellFormed, dataIn, notTaken, cutsInto, placeOf, isPacket, isRepeat, phaseAt, stateOf}
 use Rattle.module.specs.Rules.{acknowledged, taken, repeatDecision, firstDecision, loadingDecision, doneDecision}

@@ -18,9 +18,9 @@ use Rattle.kinds.specs.KindsLaws.{FitsFlash}
 use Rattle.kinds.specs.declared.Known.the-variants.{Is}
 use Rattle.pieces.specs.Pieces.{offsetOf}
 use Rattle.wire.specs.Frame as wire
-use Rattle.module.specs.Session.{largestTotal, longestIdle, stepped, totalOf, takes}
-use Rattle.module.specs.Rules.{parametersCommand, packetCommand, noticeCommand, accepted}
-use Rattle.module.specs.Rules.{parametersReply, packetReply, notice, framesOf}
+use Rattle.commands.specs.Commands.{largestPacket, largestTotal, parametersCommand, packetCommand, noticeCommand, accepted, parametersReply, packetReply, notice}
+use Rattle.module.specs.Session.{longestIdle, stepped, totalOf, takes}
+use Rattle.module.specs.Rules.{framesOf}
 use Rattle.module.specs.Rules.{dataIn, putOf, placeOf, phaseAt, sayOf, acknowledged}
 use Rattle.module.specs.RulesLaws.{phase-last, phase-before, state-whole}
 use Rattle.module.specs.Step.{Left, left, timeStep, performed}
@@ -64,13 +64,13 @@ number-said number ack h =
 
 -- Frames that accept nothing.
 pub record Quiet (fs : List wire.Frame) : Type 0 where
-  pub no-parameters : List·Memᴰ (parametersReply accepted) fs → ⊥
+  pub no-parameters : List·Memᴰ (parametersReply largestPacket accepted) fs → ⊥
   pub no-packet : (k : ℕ) → List·Memᴰ (packetReply k accepted) fs → ⊥
   pub no-notice : List·Memᴰ (notice 0) fs → ⊥
 
 -- Frames that accept parameters and no packet.
 pub record Declaring (fs : List wire.Frame) : Type 0 where
-  pub accepts : List·Memᴰ (parametersReply accepted) fs
+  pub accepts : List·Memᴰ (parametersReply largestPacket accepted) fs
   pub no-packet : (k : ℕ) → List·Memᴰ (packetReply k accepted) fs → ⊥
   pub no-notice : List·Memᴰ (notice 0) fs → ⊥
 
@@ -78,7 +78,7 @@ pub record Declaring (fs : List wire.Frame) : Type 0 where
 pub record Acknowledging (number : ℕ) (fs : List wire.Frame) : Type 0 where
   pub says : List·Memᴰ (packetReply number accepted) fs
   pub only : (k : ℕ) → k ≤ largestTotal → List·Memᴰ (packetReply k accepted) fs → k ≡ number
-  pub no-parameters : List·Memᴰ (parametersReply accepted) fs → ⊥
+  pub no-parameters : List·Memᴰ (parametersReply largestPacket accepted) fs → ⊥
 
 -- No frame accepts nothing.
 pub nothing-quiet : Quiet []
@@ -93,7 +93,7 @@ alone-quiet : (f : wire.Frame) → (f .command ≡ parametersCommand → 1 ≤ a
     → (f .command ≡ noticeCommand → ⊥) → Quiet (f ∷ [])
 alone-quiet f parameters packet other = record {
   no-parameters = λ m.
-      let e : parametersReply accepted ≡ f = List·Memᴰ·eq-of-singleton m in
+      let e : parametersReply largestPacket accepted ≡ f = List·Memᴰ·eq-of-singleton m in
       omega (arith, parameters (sym (same-command _ f e)), sym (ack-said 1024 0) ∙ ap ackIn e);
   no-packet = λ k m.
       let e : packetReply k accepted ≡ f = List·Memᴰ·eq-of-singleton m in
@@ -115,8 +115,8 @@ plain-quiet (Restart ack) h = alone-quiet _ (λ e. omega (arith, e)) (λ e. omeg
 begun-declaring : Declaring (framesOf (Parameters accepted))
 begun-declaring = record {
   accepts = List·Memᴰ·head refl;
-  no-packet = λ k m. omega (arith, same-command (packetReply k accepted) (parametersReply accepted) (List·Memᴰ·eq-of-singleton m));
-  no-notice = λ m. omega (arith, same-command (notice 0) (parametersReply accepted) (List·Memᴰ·eq-of-singleton m));
+  no-packet = λ k m. omega (arith, same-command (packetReply k accepted) (parametersReply largestPacket accepted) (List·Memᴰ·eq-of-singleton m));
+  no-notice = λ m. omega (arith, same-command (notice 0) (parametersReply largestPacket accepted) (List·Memᴰ·eq-of-singleton m));
 }
 
 -- An accepted packet and notices behind it acknowledge this packet.
@@ -132,8 +132,8 @@ acknowledging number rest most notices = record {
       (List·Memᴰ·cases-cons m);
   no-parameters = λ m.
       ⊎-elim
-      (λ (e : parametersReply accepted ≡ packetReply number accepted). omega (arith, same-command _ _ e))
-      (λ (n : List·Memᴰ (parametersReply accepted) rest). omega (arith, notices _ n))
+      (λ (e : parametersReply largestPacket accepted ≡ packetReply number accepted). omega (arith, same-command _ _ e))
+      (λ (n : List·Memᴰ (parametersReply largestPacket accepted) rest). omega (arith, notices _ n))
       (List·Memᴰ·cases-cons m);
 }
 

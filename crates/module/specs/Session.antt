@@ -7,6 +7,7 @@ use lib.ListN.{length}
 use Rattle.refusals.specs.Refusals.{wrongLength}
 use Rattle.kinds.specs.Kinds.{fitsFlash}
 use Rattle.pieces.specs.Pieces.{countOf}
+use Rattle.commands.specs.Commands.{largestPacket, largestTotal}
 use Rattle.module.specs.declared.session.Transfer.{Transfer}
 use Rattle.module.specs.declared.session.Pieces.{Pieces}
 use Rattle.module.specs.declared.session.Phase.{Phase}
@@ -16,18 +17,12 @@ use Rattle.module.specs.declared.session.Answer.{Answer}
 use Rattle.module.specs.declared.session.Answer.the-variants.{Nothing, Refused}
 use Rattle.module.specs.declared.session.Stepped.{Stepped}
 
--- The largest flash, the longest idle sum of an open session, the largest packet and the largest Total.
+-- The largest flash, and the longest idle sum of an open session.
 abbrev pub largestFlash : ℕ
 largestFlash = 262144
 
 abbrev pub longestIdle : ℕ
 longestIdle = 7000
-
-abbrev pub largestPacket : ℕ
-largestPacket = 1024
-
-abbrev pub largestTotal : ℕ
-largestTotal = 65535
 
 abbrev pub session : ℕ → ℕ → Phase → Session
 session flash idle phase = record { flash = flash; idle = idle; phase = phase }

@@ -9,7 +9,8 @@ use lib.Dec.{ltb, leb}
 use Rattle.octets.specs.Choice.{both}
 use Rattle.kinds.specs.KindsLaws.{FitsFlash, fits-flash, flash-fits}
 use Rattle.pieces.specs.PiecesLaws.{counted, count-some}
-use Rattle.module.specs.Session.{largestFlash, longestIdle, largestPacket, largestTotal, totalOf}
+use Rattle.commands.specs.Commands.{largestPacket, largestTotal}
+use Rattle.module.specs.Session.{largestFlash, longestIdle, totalOf}
 use Rattle.module.specs.Session.{openable, alive, fits, cuts, loadingArises, doneArises, held, takes}
 use Rattle.module.specs.RulesLaws.{BoundedPhase}
 use Rattle.module.specs.declared.session.Pieces.{Pieces}

@@ -3,8 +3,8 @@ use Prim.Native.Nat.{ℕ}
 use mathlib.Core.List.{List, [], _∷_, _++_}
 use mathlib.Core.Path.{sym, _∙_}
 use Rattle.octets.specs.Octets.{Bytes}
+use Rattle.commands.specs.Commands.{notice}
 use Rattle.module.specs.Session.{totalOf}
-use Rattle.module.specs.Rules.{notice}
 use Rattle.module.specs.Runs.{Given, exchange, nextOf, afterOf, runOf, AllBytes, Says}
 use Rattle.module.specs.Said.{Acknowledges, Turn, quiet, declares, writes, again, turn-of}
 use Rattle.module.specs.Track.{Pieced, accepted-pieced, tracked-more, reached-tracked}

@@ -17,9 +17,10 @@ use Rattle.octets.specs.Lists.{each-more}
 use Rattle.kinds.specs.Kinds.{baseOf}
 use Rattle.pieces.specs.Pieces.{offsetOf, sizeAt}
 use Rattle.pieces.specs.PiecesLaws.{Within, within, next-offset}
-use Rattle.module.specs.Session.{largestTotal, openable, openingOf, totalOf}
+use Rattle.commands.specs.Commands.{largestPacket, largestTotal, accepted, parametersReply, packetReply}
+use Rattle.module.specs.Session.{openable, openingOf, totalOf}
 use Rattle.module.specs.SessionLaws.{cut-length}
-use Rattle.module.specs.Rules.{accepted, parametersReply, packetReply, dataIn, placeOf}
+use Rattle.module.specs.Rules.{dataIn, placeOf}
 use Rattle.module.specs.Runs.{Given, Exchange, exchange, nextOf, afterOf, runOf, AllBytes, isRefused, Says, payloadOf}
 use Rattle.module.specs.Outcomes.{Belongs, Expects, first, later, Accepted, loading, done}
 use Rattle.module.specs.Said.{Quiet, Acknowledging, Declares, Acknowledges, Turn, quiet, declares, writes, again, heardOf, turn-of}
@@ -185,18 +186,18 @@ pub record Track (history : List Exchange) (t : Transfer) (number : ℕ) (pieces
 
 -- One exchange more that accepts no parameters.
 last-more : (history : List Exchange) (parameters : Exchange) (since : List Exchange) (x : Exchange)
-    → LastParameters history parameters since → (Says x (parametersReply accepted) → ⊥)
+    → LastParameters history parameters since → (Says x (parametersReply largestPacket accepted) → ⊥)
     → LastParameters (history ++ (x ∷ [])) parameters (since ++ (x ∷ []))
 last-more history parameters since x h none = record {
   before = h .before;
   split = rw (h .split) (append-assoc (h .before) (parameters ∷ since) (x ∷ []));
   accepts = h .accepts;
-  no-later = each-more (λ (y : Exchange). Says y (parametersReply accepted) → ⊥) since x (h .no-later) none;
+  no-later = each-more (λ (y : Exchange). Says y (parametersReply largestPacket accepted) → ⊥) since x (h .no-later) none;
 }
 
 -- The history goes on with what has been loaded then.
 track-more : (history : List Exchange) (t : Transfer) (number : ℕ) (pieces : List (List ℕ)) (r : Track history t number pieces)
-    (x : Exchange) → (Says x (parametersReply accepted) → ⊥) → (reached : ℕ) (longer : List (List ℕ))
+    (x : Exchange) → (Says x (parametersReply largestPacket accepted) → ⊥) → (reached : ℕ) (longer : List (List ℕ))
     → Loaded (r .parameters .given .flash) (baseOf (t .kind)) (r .since ++ (x ∷ [])) reached longer
     → Track (history ++ (x ∷ [])) t reached longer
 track-more history t number pieces r x none reached longer l = record {

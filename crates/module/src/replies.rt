@@ -3,7 +3,8 @@ ghost use mathlib.Core.Path.{_≡_};
 ghost use Prim.Native.Nat.{_≤_};
 ghost use lib.ListN.{length};
 ghost use Rattle.octets.specs.Octets.{over};
-ghost use Rattle.module.specs.Rules.{framesOf, frame, packetReply};
+ghost use Rattle.commands.specs.Commands.{frame, packetReply};
+ghost use Rattle.module.specs.Rules.{framesOf};
 ghost use Rattle.module.specs.Step.{wiresOf, answerOf};
 ghost use Rattle.module.specs.StepLaws.{Wrote};
 use crate::rules::Say;
@@ -17,11 +18,15 @@ pub(crate) fn send(say: Say, reply: &mut [u8]) -> Answer
 {
     match say {
         Say::Nothing => Answer::Nothing,
-        Say::Rate { rate, ack } => Answer::Sent(one(0x01, &[rate, ack], reply)),
-        Say::Parameters { ack } => Answer::Sent(one(0x02, &[0x00, 0x04, ack], reply)),
+        Say::Rate { rate, ack } => Answer::Sent(one(commands::RATE, &[rate, ack], reply)),
+        Say::Parameters { ack } => Answer::Sent(one(
+            commands::PARAMETERS,
+            &[0x00, 0x04, ack],
+            reply,
+        )),
         Say::Packet { number, ack } => Answer::Sent(packet(number, ack, reply)),
         Say::Last { number, state } => Answer::Sent(last(number, state, reply)),
-        Say::Restart { ack } => Answer::Sent(one(0x06, &[ack], reply)),
+        Say::Restart { ack } => Answer::Sent(one(commands::RESTART, &[ack], reply)),
     }
 }
 
@@ -31,7 +36,7 @@ fn packet(number: usize, ack: u8, reply: &mut [u8]) -> usize
     ensures { λ r. ⌜ Wrote (packetReply number ack) r (now (reply .entry)) (now (reply .exit)) ⌝ }
 {
     one(
-        0x05,
+        commands::PACKET,
         &[(number % 256) as u8, (number / 256 % 256) as u8, ack],
         reply,
     )
@@ -43,8 +48,8 @@ fn last(number: usize, state: u8, reply: &mut [u8]) -> usize
     ensures { λ r. ⌜ (r ≡ length (wiresOf (framesOf (Say.Last number state))))
         × (now (reply .exit) ≡ over (wiresOf (framesOf (Say.Last number state))) (now (reply .entry))) ⌝ }
 {
-    let n = packet(number, 0x00, reply);
-    n + one(0x86, &[state], &mut reply[n..])
+    let n = packet(number, commands::ACCEPTED, reply);
+    n + one(commands::NOTICE, &[state], &mut reply[n..])
 }
 
 // One frame of at most three payload bytes.

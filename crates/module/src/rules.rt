@@ -72,10 +72,10 @@ pub(crate) fn decide(phase: Phase, command: u8, payload: &[u8], flash: &[u8]) ->
     ensures { λ r. ⌜ r ≡ decideOf phase command (now (payload .entry)) (now (flash .entry)) ⌝ }
 {
     match command {
-        0x01 => rate(phase, payload),
-        0x02 => parameters(phase, payload, flash.len()),
-        0x05 => packet(phase, payload, flash),
-        0x06 => restart(phase, payload),
+        commands::RATE => rate(phase, payload),
+        commands::PARAMETERS => parameters(phase, payload, flash.len()),
+        commands::PACKET => packet(phase, payload, flash),
+        commands::RESTART => restart(phase, payload),
         _ => unmoved_say(phase, Say::Nothing),
     }
 }
@@ -106,7 +106,13 @@ fn rate(phase: Phase, payload: &[u8]) -> Decision
     ensures { λ r. ⌜ r ≡ rateDecision phase (now (payload .entry)) ⌝ }
 {
     if payload.len() != 1 {
-        return unmoved_say(phase, Say::Rate { rate: 0, ack: 0x10 });
+        return unmoved_say(
+            phase,
+            Say::Rate {
+                rate: 0,
+                ack: commands::NOT_UNDERSTOOD,
+            },
+        );
     }
     let asked = octets::byte_at(payload, 0);
     unmoved_say(
@@ -122,9 +128,13 @@ fn rate_ack(rate: u8) -> u8
     ensures { λ r. ⌜ r ≡ rateAck rate ⌝ }
 {
     if rate < 1 {
-        return 0x01;
+        return commands::WRONG_FIRST;
     }
-    if rate <= 5 { 0x00 } else { 0x01 }
+    if rate <= 5 {
+        commands::ACCEPTED
+    } else {
+        commands::WRONG_FIRST
+    }
 }
 
 // 0x02: payload length, type, address, length, in this order.
@@ -132,12 +142,22 @@ fn parameters(phase: Phase, payload: &[u8], flash: usize) -> Decision
     ensures { λ r. ⌜ r ≡ parametersDecision phase (now (payload .entry)) flash ⌝ }
 {
     if payload.len() != 10 {
-        return unmoved_say(phase, Say::Parameters { ack: 0x10 });
+        return unmoved_say(
+            phase,
+            Say::Parameters {
+                ack: commands::NOT_UNDERSTOOD,
+            },
+        );
     }
     let known = kinds::kind_of(octets::two_at(payload, 0));
     match known {
         Known::Is(kind) => parameters_of(phase, kind, payload, flash),
-        Known::Unknown => unmoved_say(phase, Say::Parameters { ack: 0x01 }),
+        Known::Unknown => unmoved_say(
+            phase,
+            Say::Parameters {
+                ack: commands::WRONG_FIRST,
+            },
+        ),
     }
 }
 
@@ -145,18 +165,30 @@ fn parameters_of(phase: Phase, kind: Kind, payload: &[u8], flash: usize) -> Deci
     ensures { λ r. ⌜ r ≡ kindDecision phase kind (now (payload .entry)) flash ⌝ }
 {
     if octets::four_at(payload, 6) != kinds::token_of(kind) {
-        return unmoved_say(phase, Say::Parameters { ack: 0x10 });
+        return unmoved_say(
+            phase,
+            Say::Parameters {
+                ack: commands::NOT_UNDERSTOOD,
+            },
+        );
     }
     let length = wide32(octets::four_at(payload, 2));
     if !kinds::fits_flash(kind, length, flash) {
-        return unmoved_say(phase, Say::Parameters { ack: 0x02 });
+        return unmoved_say(
+            phase,
+            Say::Parameters {
+                ack: commands::WRONG_SECOND,
+            },
+        );
     }
     unmoved_say(
         Phase::Begun(Transfer {
             kind: kind,
             length: length,
         }),
-        Say::Parameters { ack: 0x00 },
+        Say::Parameters {
+            ack: commands::ACCEPTED,
+        },
     )
 }
 
@@ -165,9 +197,19 @@ fn restart(phase: Phase, payload: &[u8]) -> Decision
     ensures { λ r. ⌜ r ≡ restartDecision phase (now (payload .entry)) ⌝ }
 {
     if payload.len() != 0 {
-        return unmoved_say(phase, Say::Restart { ack: 0x10 });
+        return unmoved_say(
+            phase,
+            Say::Restart {
+                ack: commands::NOT_UNDERSTOOD,
+            },
+        );
     }
-    unmoved_say(Phase::Closed, Say::Restart { ack: 0x00 })
+    unmoved_say(
+        Phase::Closed,
+        Say::Restart {
+            ack: commands::ACCEPTED,
+        },
+    )
 }
 
 // 0x05: the expected packet, a repeat of the one just accepted, or refused with PkNo 0.
@@ -189,7 +231,7 @@ fn packet_refused(phase: Phase) -> Decision
         phase,
         Say::Packet {
             number: 0,
-            ack: 0x10,
+            ack: commands::NOT_UNDERSTOOD,
         },
     )
 }
@@ -386,19 +428,19 @@ fn say_of(phase: Phase, number: usize) -> Say
     match phase {
         Phase::Closed => Say::Packet {
             number: number,
-            ack: 0x00,
+            ack: commands::ACCEPTED,
         },
         Phase::Ready => Say::Packet {
             number: number,
-            ack: 0x00,
+            ack: commands::ACCEPTED,
         },
         Phase::Begun(_) => Say::Packet {
             number: number,
-            ack: 0x00,
+            ack: commands::ACCEPTED,
         },
         Phase::Loading { .. } => Say::Packet {
             number: number,
-            ack: 0x00,
+            ack: commands::ACCEPTED,
         },
         Phase::Done { pieces, written } => Say::Last {
             number: number,

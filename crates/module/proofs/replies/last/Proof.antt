@@ -1,6 +1,6 @@
 -- `last`: the notice is written behind the acknowledgement.
 use borrow.Author.Needs.{needs}
-use Rattle.module.specs.Rules.{accepted, packetReply, notice}
+use Rattle.commands.specs.Commands.{accepted, packetReply, notice}
 use Rattle.module.specs.StepLaws.{sent-two}
 use Rattle.module.proofs.replies.last.Statement.{statement}
 use Rattle.module.proofs.replies.last.Tie as tie

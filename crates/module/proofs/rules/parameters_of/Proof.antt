@@ -3,7 +3,8 @@ use mathlib.Core.Path.{_≡_, sym, ap, _∙_}
 use Rattle.octets.specs.Choice.{passed, failed}
 use Rattle.octets.specs.Octets.{numberAt}
 use Rattle.kinds.specs.Kinds.{tokenOf, fitsFlash}
-use Rattle.module.specs.Rules.{accepted, unmoved}
+use Rattle.commands.specs.Commands.{accepted}
+use Rattle.module.specs.Rules.{unmoved}
 use Rattle.module.specs.RulesLaws.{kind-begins, kind-address, kind-length}
 use Rattle.module.specs.declared.session.Phase.the-variants.{Begun}
 use Rattle.module.specs.declared.rules.Say.the-variants.{Parameters}

@@ -2,7 +2,8 @@
 use borrow.Author.Needs.{needs}
 use native.Mathlib.Omega.{arith}
 use borrow.Author.Tests.{le-leb, lt-leb}
-use Rattle.module.specs.Session.{largestPacket, cuts}
+use Rattle.commands.specs.Commands.{largestPacket}
+use Rattle.module.specs.Session.{cuts}
 use Rattle.module.proofs.session.is_cut.Statement.{statement}
 use Rattle.module.proofs.session.is_cut.Tie as tie
 

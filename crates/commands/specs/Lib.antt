@@ -1,0 +1,2 @@
+-- The commands and answers of document 001.
+pub mod Commands
