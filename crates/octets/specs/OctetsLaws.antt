@@ -5,6 +5,7 @@ use mathlib.Core.List.{List, [], _∷_, _++_, append-assoc, append-nil}
 use mathlib.Core.Path.{_≡_, refl, sym, ap, ap₂, _∙_}
 use native.Mathlib.Decide.{decLe}
 use native.Mathlib.Nat.{add-zero, le-trans, le-add-right, min-eq-left, min-eq-right, div-lt-iff-lt-mul, pow-suc}
+use native.Mathlib.Nat.{mul-right-comm, div-add-mod, mod-lt, mul-add-mod-self-left, mod-eq-of-lt}
 use native.Mathlib.Numerals.{add-one, add-two}
 use native.Mathlib.Omega.{arith}
 use borrow.Author.Tests.{eq-eqb, eqb-true, ne-eqb}
@@ -145,6 +146,30 @@ spelled-little (b ∷ bs) h =
     let high : (b + 256 * little bs) / 256 ≡ little bs = omega (arith, h .0) in
     rw (low, high, spelled-little bs (h .1))
 
+-- So many bytes spell no more of a number than its rest by 256 to their count.
+pub spelled-rest : (n x : ℕ) → spelled n (x % 256 ^ n) ≡ spelled n x
+unfolding spelled
+spelled-rest zero x = refl
+spelled-rest (suc n) x =
+    let rest = rest-split (256 ^ n) x (pow-some n) in
+    let low : x % 256 ^ suc n % 256 ≡ x % 256 = rw (pow-suc, rest) (omega arith) in
+    let high : x % 256 ^ suc n / 256 ≡ x / 256 % 256 ^ n = rw (pow-suc, rest) (omega arith) in
+    rw (low, high, spelled-rest n (x / 256))
+  where
+    pow-some : (n : ℕ) → 0 < 256 ^ n
+    pow-some zero = omega arith
+    pow-some (suc n) = rw pow-suc (omega (arith, pow-some n))
+
+    rest-split : (p x : ℕ) → 0 < p → x % (p * 256) ≡ 256 * (x / 256 % p) + x % 256
+    rest-split p x h =
+        let high : ℕ = x / 256 in
+        let times : p * 256 * (high / p) ≡ p * (high / p) * 256 = mul-right-comm p 256 (high / p) in
+        let split : x ≡ p * 256 * (high / p) + (256 * (high % p) + x % 256) = omega (arith, times, div-add-mod high p) in
+        let less : 256 * (high % p) + x % 256 < p * 256 = omega (arith, mod-lt high h) in
+        ap (λ (y : ℕ). y % (p * 256)) split
+        ∙ mul-add-mod-self-left (p * 256) (high / p) (256 * (high % p) + x % 256)
+        ∙ mod-eq-of-lt less
+
 -- ---- a buffer written from the front
 
 pub over-nil : (out : List ℕ) → over [] out ≡ out
@@ -158,6 +183,11 @@ length-over front out h = simp (length-append, length-drop) (omega arith)
 pub take-over : (front out : List ℕ) (n : ℕ) → length front ≡ n → take n (over front out) ≡ front
 unfolding over
 take-over front out n e = take-at front (drop (length front) out) n e
+
+-- A front as long as the buffer is all of it.
+pub over-all : (front out : List ℕ) → length out ≤ length front → over front out ≡ front
+unfolding over
+over-all front out h = rw (drop-of-length-le out h) (append-nil front)
 
 -- A run laid at the next place is written behind the front.
 pub over-laid : (front out s : List ℕ) (n : ℕ) → length front ≡ n → n + length s ≤ length out → laid (over front out) n s ≡ over (front ++ s) out

@@ -3,12 +3,12 @@ use Prim.Native.Nat.{ℕ, zero, suc, _+_, _-_, _^_, _≤_, _<_}
 use mathlib.Core.Bool.{Bool, true, _&&_}
 use mathlib.Core.List.{List, [], _∷_, _++_, append-assoc, append-nil}
 use mathlib.Core.Path.{_≡_, refl, sym, ap, ap₂, _∙_}
-use native.Mathlib.Nat.{pow-suc}
+use native.Mathlib.Nat.{pow-suc, min-le-left}
 use native.Mathlib.Omega.{arith}
 use borrow.Author.Tests.{eqb-true}
 use lib.Bits.{bitXor, xor-lt}
 use lib.Dec.{eqb}
-use lib.ListN.{length, take, drop, replicate, length-append, length-drop}
+use lib.ListN.{length, take, drop, replicate, length-append, length-take, length-drop}
 use lib.Seq.{take-at, take-all, drop-at, drop-drop, take-add, length-take-le}
 use Rattle.octets.specs.Choice.{both, by-test}
 use Rattle.octets.specs.Lists.{bytes-take, bytes-drop}
@@ -22,6 +22,11 @@ use Rattle.octets.specs.OctetsLaws.{little-spelled, spelled-little, over
 pub length-part : (s : List ℕ) (at n : ℕ) → at + n ≤ length s → length (partOf s at n) ≡ n
 unfolding partOf
 length-part s at n h = length-take-le n (drop at s) (rw length-drop (omega arith))
+
+-- A part is never longer than asked for.
+pub part-most : (s : List ℕ) (at n : ℕ) → length (partOf s at n) ≤ n
+unfolding partOf
+part-most s at n = rw length-take (min-le-left n (length (drop at s)))
 
 -- A part of bytes is bytes.
 pub bytes-part : (s : List ℕ) (at n : ℕ) → Bytes s → Bytes (partOf s at n)

@@ -1,16 +1,15 @@
 -- The laws of Pieces.
 use Prim.Native.Nat.{ℕ, zero, suc, _+_, _*_, _-_, _/_, _≤_, _<_}
-use mathlib.Core.List.{List, _++_}
+use mathlib.Core.List.{List, [], _++_}
 use mathlib.Core.Path.{_≡_, refl, sym, ap, _∙_}
-use native.Mathlib.Decide.{decLt}
 use native.Mathlib.Nat.{add-div-right, div-eq-of-lt, div-eq-of-lt-le, div-mul-le-self, div-le-self, lt-div-mul-add}
-use native.Mathlib.Nat.{mul-le-mul-right, suc-mul}
+use native.Mathlib.Nat.{mul-le-mul-right, suc-mul, div-lt-iff-lt-mul, le-div-iff-mul-le}
 use native.Mathlib.Numerals.{add-one}
-use native.Mathlib.Decide.{ℕ-discrete}
+use native.Mathlib.Decide.{decLt, ℕ-discrete}
 use native.Mathlib.Omega.{arith}
 use borrow.Author.Tests.{eq-eqb, ne-eqb}
-use lib.ListN.{length, take, drop, length-drop}
-use lib.Seq.{take-all, take-add, take-length}
+use lib.ListN.{length, take, drop, length-drop, drop-of-length-le}
+use lib.Seq.{take-all, take-add, take-length, take-nil}
 use Rattle.octets.specs.Octets.{partOf}
 use Rattle.octets.specs.PartLaws.{length-part}
 use Rattle.pieces.specs.Pieces.{countOf, offsetOf, sizeAt, pieceOf}
@@ -200,3 +199,14 @@ take-more image size number one = rw (product-step number size one) (sym (take-a
 -- All pieces are the image.
 pub take-whole : (image : List ℕ) (size : ℕ) → 1 ≤ length image → 1 ≤ size → take (countOf (length image) size * size) image ≡ image
 take-whole image size h k = take-all (countOf (length image) size * size) image (counted (length image) size h k .over)
+
+-- Behind the last piece nothing is left; up to it a piece begins within the image.
+pub piece-behind : (image : List ℕ) (size number : ℕ) → 1 ≤ size → length image / size < number - 1 → pieceOf image size number ≡ []
+unfolding partOf
+piece-behind image size number some h =
+    let far : length image < (number - 1) * size = div-lt-iff-lt-mul some .0 h in
+    let end : length image ≤ (number - 1) * size = omega (arith, far) in
+    rw (drop-of-length-le image end) (take-nil size)
+
+pub piece-begins : (n size before : ℕ) → 1 ≤ size → before ≤ n / size → before * size ≤ n
+piece-begins n size before some h = le-div-iff-mul-le some .0 h
