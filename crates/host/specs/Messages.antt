@@ -1,0 +1,35 @@
+-- What the host sends at each stage.
+use Prim.Native.Nat.{ℕ}
+use mathlib.Core.Bool.{cond}
+use mathlib.Core.List.{List}
+use lib.Dec.{ltb}
+use lib.ListN.{length}
+use Rattle.refusals.specs.Refusals.{noRoom, textOf}
+use Rattle.refusals.specs.Written.{Out, refused, written}
+use Rattle.pieces.specs.Pieces.{countOf}
+use Rattle.wire.specs.Frame.{wireOf}
+use Rattle.commands.specs.Commands.{rateFrame, parametersFrame, packetFrame, restartFrame}
+use Rattle.host.specs.Session.{numberOfRate}
+use Rattle.host.specs.declared.session.Plan.{Plan}
+use Rattle.host.specs.declared.session.Stage.{Stage}
+use Rattle.host.specs.declared.session.Stage.the-variants.{Text, Asking, Declaring, Sending, Noticing, Restarting}
+
+-- The start text and its answer, each with CR LF.
+abbrev pub startText : List ℕ
+startText = textOf "$PCAS20*03\r\n"
+
+abbrev pub startAnswer : List ℕ
+startAnswer = textOf "$PCAS30,3*1D\r\n"
+
+-- What is sent at a stage, first and again. While the notice is awaited it is the last packet.
+abbrev pub messageOf : Plan → List ℕ → Stage → List ℕ
+messageOf plan image Text = startText
+messageOf plan image (Asking rate) = wireOf (rateFrame (numberOfRate rate))
+messageOf plan image (Declaring rate) = wireOf (parametersFrame (plan .kind) (length image))
+messageOf plan image (Sending rate size number) = wireOf (packetFrame image size number)
+messageOf plan image (Noticing rate size) = wireOf (packetFrame image size (countOf (length image) size))
+messageOf plan image (Restarting rate size) = wireOf restartFrame
+
+-- A message stands at the front of the output; 2 where the output is shorter, and nothing is written.
+unfoldable pub sentOf : List ℕ → List ℕ → Out
+sentOf message output = cond (ltb (length output) (length message)) (refused noRoom output) (written message output)

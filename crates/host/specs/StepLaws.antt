@@ -1,0 +1,124 @@
+-- The laws of Step.
+use Prim.Native.Nat.{ℕ, _≤_}
+use mathlib.Core.Bool.{Bool, true, false, cond}
+use mathlib.Core.List.{List}
+use mathlib.Core.Path.{_≡_, sym, ap, _∙_}
+use native.Mathlib.Omega.{arith}
+use borrow.Author.Tests.{eq-eqb, ne-eqb}
+use lib.Dec.{ltb}
+use lib.ListN.{length}
+use Rattle.octets.specs.Octets.{over}
+use Rattle.refusals.specs.Refusals.{noRoom, wrongLength}
+use Rattle.refusals.specs.Written.{Out, refused, written, countOf, refusalOf}
+use Rattle.refusals.specs.declared.Written.{Written}
+use Rattle.refusals.specs.declared.Written.the-variants as writes
+use Rattle.host.specs.Session.{stepped, firstStage, waitFits, arises}
+use Rattle.host.specs.Messages.{sentOf}
+use Rattle.host.specs.Step.{left, sends, phaseStep, stepOf}
+use Rattle.host.specs.declared.session.Rate.{Rate}
+use Rattle.host.specs.declared.session.Start.{Start}
+use Rattle.host.specs.declared.session.Start.the-variants.{WithText, AtOnce}
+use Rattle.host.specs.declared.session.Stage.{Stage}
+use Rattle.host.specs.declared.session.Stage.the-variants.{Text, Asking, Declaring, Sending, Noticing, Restarting}
+use Rattle.host.specs.declared.session.Wait.{Wait}
+use Rattle.host.specs.declared.session.Phase.{Phase}
+use Rattle.host.specs.declared.session.Phase.the-variants.{Waiting}
+use Rattle.host.specs.declared.session.Session.{Session}
+use Rattle.host.specs.declared.session.Event.{Event}
+use Rattle.host.specs.declared.session.Answer.the-variants.{Nothing, Refused}
+use Rattle.host.specs.declared.session.Stepped.{Stepped}
+use Rattle.host.specs.declared.answers.Move.{Move}
+use Rattle.host.specs.declared.answers.Move.the-variants.{Stay, Enter, Await, Resend, Refuse, TooMany, Finish}
+
+-- A stage whose packets fit a frame.
+abbrev pub Small : Stage → Type 0
+Small Text = Unit
+Small (Asking rate) = Unit
+Small (Declaring rate) = Unit
+Small (Sending rate size number) = (size ≤ 1024) × (number ≤ 65535)
+Small (Noticing rate size) = size ≤ 1024
+Small (Restarting rate size) = Unit
+
+-- A move that leads to such a stage.
+abbrev pub SmallMove : Move → Type 0
+SmallMove Stay = Unit
+SmallMove (Enter next) = Small next
+SmallMove (Await next) = Small next
+SmallMove Resend = Unit
+SmallMove (Refuse number passed) = Unit
+SmallMove TooMany = Unit
+SmallMove Finish = Unit
+
+-- A stage is small whatever name it has.
+pub small-same : (stage told : Stage) → stage ≡ told → Small stage → Small told
+small-same stage told e h = rw (sym e) h
+
+-- So is a move.
+pub small-move-same : (move told : Move) → move ≡ told → SmallMove move → SmallMove told
+small-move-same move told e h = rw (sym e) h
+
+-- A session begins at a small stage.
+pub first-small : (start : Start) (rate : Rate) → Small (firstStage start rate)
+first-small WithText rate = tt
+first-small AtOnce rate = tt
+
+-- ---- a message sent from a session
+
+module _ (s : Session) (message output : List ℕ) (answer : Written) (after : List ℕ)
+    (sent : record { answer = answer; output = after } ≡ sentOf message output) where
+  -- A counted message was sent, and the session is the next.
+  pub sends-counted : (next : ℕ → Stepped) (n : ℕ) → answer ≡ writes.Count n
+      → left (next n) after ≡ sends s (next (length message)) message output
+  unfolding sentOf sends
+  sends-counted next n told = go (ltb (length output) (length message)) sent
+    where
+      go : (t : Bool) → record { answer = answer; output = after } ≡ cond t (refused noRoom output) (written message output)
+          → left (next n) after ≡ cond t (left (stepped s (Refused noRoom)) output) (left (next (length message)) (over message output))
+      go true e =
+          let none : 0 ≡ noRoom = ap refusalOf (sym told) ∙ ap (λ (o : Out). refusalOf (o .answer)) e in
+          absurd (omega (arith, none))
+      go false e =
+          let count : n ≡ length message = ap countOf (sym told) ∙ ap (λ (o : Out). countOf (o .answer)) e in
+          rw (count, ap (λ (o : Out). o .output) e)
+
+  -- A refused one left all as it was.
+  pub sends-refused : (next : Stepped) (n : ℕ) → answer ≡ writes.Refused n
+      → left (stepped s (Refused n)) after ≡ sends s next message output
+  unfolding sentOf sends
+  sends-refused next n told = go (ltb (length output) (length message)) sent
+    where
+      go : (t : Bool) → record { answer = answer; output = after } ≡ cond t (refused noRoom output) (written message output)
+          → left (stepped s (Refused n)) after ≡ cond t (left (stepped s (Refused noRoom)) output) (left next (over message output))
+      go true e =
+          let number : n ≡ noRoom = ap refusalOf (sym told) ∙ ap (λ (o : Out). refusalOf (o .answer)) e in
+          rw (number, ap (λ (o : Out). o .output) e)
+      go false e =
+          let same : writes.Refused n ≡ writes.Count (length message) = sym told ∙ ap (λ (o : Out). o .answer) e in
+          let z : _≡_ {A = ℕ} 0 1 = cc in
+          absurd (omega (arith, z))
+
+-- ---- the ways of a step: 3, ended or not arisen, and the event
+
+-- A waiting session that arises could.
+pub arisen : (s : Session) (w : Wait) → arises s ≡ true → s .phase ≡ Waiting w → waitFits (s .image) w ≡ true
+unfolding arises
+arisen s w h told = rw told at h
+
+module _ (s : Session) (e : Event) (bytes image output : List ℕ) where
+  -- An image of another length is refused with 3.
+  pub step-wrong-length : (length image ≡ s .image → ⊥)
+      → stepOf s e bytes image output ≡ left (stepped s (Refused wrongLength)) output
+  unfolding stepOf
+  step-wrong-length n = rw (ne-eqb (length image) (s .image) n)
+
+  -- A session that could not arise answers nothing.
+  pub step-not-arisen : length image ≡ s .image → arises s ≡ false → stepOf s e bytes image output ≡ left (stepped s Nothing) output
+  unfolding stepOf
+  step-not-arisen l a = rw (eq-eqb (length image) (s .image) l, a)
+
+  -- Any other goes by its phase.
+  pub step-phase : length image ≡ s .image → arises s ≡ true → (phase : Phase) → s .phase ≡ phase
+      → stepOf s e bytes image output ≡ phaseStep s phase e bytes image output
+  unfolding stepOf
+  step-phase l a phase told =
+      rw (eq-eqb (length image) (s .image) l, a) (ap (λ (p : Phase). phaseStep s p e bytes image output) told)
