@@ -83,19 +83,33 @@ fitting expected n command size = eqb command expected && eqb size n
 abbrev pub whereFitting : ℕ → ℕ → ℕ → List ℕ → Move → Move
 whereFitting expected n command payload move = cond (fitting expected n command (length payload)) move Stay
 
+-- The answers to 0x01, 0x02 and 0x05, the notice, and the answer to 0x06.
+abbrev pub rateAnswer : Rate → ℕ → List ℕ → Move
+rateAnswer rate command payload =
+    whereFitting rateCommand 2 command payload (rateMove rate (getD payload 0 0) (getD payload 1 0))
+
+abbrev pub parametersAnswer : Plan → ℕ → Rate → ℕ → List ℕ → Move
+parametersAnswer plan image rate command payload =
+    whereFitting parametersCommand 3 command payload (parametersMove plan image rate (numberAt 2 payload 0) (getD payload 2 0))
+
+abbrev pub packetAnswer : Plan → ℕ → Rate → ℕ → ℕ → ℕ → List ℕ → Move
+packetAnswer plan image rate size number command payload =
+    whereFitting packetCommand 3 command payload (packetMove plan image rate size number (numberAt 2 payload 0) (getD payload 2 0))
+
+abbrev pub noticeAnswer : Rate → ℕ → ℕ → List ℕ → Move
+noticeAnswer rate size command payload = whereFitting noticeCommand 1 command payload (noticeMove rate size (getD payload 0 0))
+
+abbrev pub restartAnswer : ℕ → List ℕ → Move
+restartAnswer command payload = whereFitting restartCommand 1 command payload (byAck (getD payload 0 0) Finish Stay Stay)
+
 -- A frame at each stage.
 abbrev pub frameMove : Plan → ℕ → Stage → ℕ → List ℕ → Move
 frameMove plan image Text command payload = Stay
-frameMove plan image (Asking rate) command payload =
-    whereFitting rateCommand 2 command payload (rateMove rate (getD payload 0 0) (getD payload 1 0))
-frameMove plan image (Declaring rate) command payload =
-    whereFitting parametersCommand 3 command payload (parametersMove plan image rate (numberAt 2 payload 0) (getD payload 2 0))
-frameMove plan image (Sending rate size number) command payload =
-    whereFitting packetCommand 3 command payload (packetMove plan image rate size number (numberAt 2 payload 0) (getD payload 2 0))
-frameMove plan image (Noticing rate size) command payload =
-    whereFitting noticeCommand 1 command payload (noticeMove rate size (getD payload 0 0))
-frameMove plan image (Restarting rate size) command payload =
-    whereFitting restartCommand 1 command payload (byAck (getD payload 0 0) Finish Stay Stay)
+frameMove plan image (Asking rate) command payload = rateAnswer rate command payload
+frameMove plan image (Declaring rate) command payload = parametersAnswer plan image rate command payload
+frameMove plan image (Sending rate size number) command payload = packetAnswer plan image rate size number command payload
+frameMove plan image (Noticing rate size) command payload = noticeAnswer rate size command payload
+frameMove plan image (Restarting rate size) command payload = restartAnswer command payload
 
 -- A line of text fits only as the answer to the start text, byte for byte with its CR LF.
 unfoldable pub textMove : Rate → List ℕ → Move

@@ -14,6 +14,11 @@ ghost use Rattle.host.specs.Answers.{
   packetMove,
   noticeMove,
   fitting,
+  rateAnswer,
+  parametersAnswer,
+  packetAnswer,
+  noticeAnswer,
+  restartAnswer,
   frameMove,
   textMove,
   lineMove,
@@ -47,59 +52,100 @@ pub(crate) fn frame_move(
     requires { ⌜ Small stage ⌝ }
     ensures { λ r. ⌜ r ≡ frameMove plan image stage command (now (payload .entry)) ⌝ }
 {
-    let n = payload.len();
     match stage {
         Stage::Text => Move::Stay,
-        Stage::Asking(rate) => {
-            if !fits(commands::RATE, 2, command, n) {
-                return Move::Stay;
-            }
-            rate_move(
-                rate,
-                octets::byte_at(payload, 0),
-                octets::byte_at(payload, 1),
-            )
-        }
-        Stage::Declaring(rate) => {
-            if !fits(commands::PARAMETERS, 3, command, n) {
-                return Move::Stay;
-            }
-            let most = wide(octets::two_at(payload, 0));
-            parameters_move(plan, image, rate, most, octets::byte_at(payload, 2))
-        }
-        Stage::Sending { rate, size, number } => {
-            if !fits(commands::PACKET, 3, command, n) {
-                return Move::Stay;
-            }
-            let given = wide(octets::two_at(payload, 0));
-            packet_move(
-                plan,
-                image,
-                rate,
-                size,
-                number,
-                given,
-                octets::byte_at(payload, 2),
-            )
-        }
-        Stage::Noticing { rate, size } => {
-            if !fits(commands::NOTICE, 1, command, n) {
-                return Move::Stay;
-            }
-            notice_move(rate, size, octets::byte_at(payload, 0))
-        }
-        Stage::Restarting { rate, size } => {
-            if !fits(commands::RESTART, 1, command, n) {
-                return Move::Stay;
-            }
-            by_ack(
-                octets::byte_at(payload, 0),
-                Move::Finish,
-                Move::Stay,
-                Move::Stay,
-            )
-        }
+        Stage::Asking(rate) => rate_answer(rate, command, payload),
+        Stage::Declaring(rate) => parameters_answer(plan, image, rate, command, payload),
+        Stage::Sending { rate, size, number } => packet_answer(
+            plan,
+            image,
+            rate,
+            size,
+            number,
+            command,
+            payload,
+        ),
+        Stage::Noticing { rate, size } => notice_answer(rate, size, command, payload),
+        Stage::Restarting { .. } => restart_answer(command, payload),
     }
+}
+
+// An answer to 0x01.
+fn rate_answer(rate: Rate, command: u8, payload: &[u8]) -> Move
+    ensures { λ r. ⌜ r ≡ rateAnswer rate command (now (payload .entry)) ⌝ }
+{
+    if !fits(commands::RATE, 2, command, payload.len()) {
+        return Move::Stay;
+    }
+    rate_move(
+        rate,
+        octets::byte_at(payload, 0),
+        octets::byte_at(payload, 1),
+    )
+}
+
+// An answer to 0x02.
+fn parameters_answer(plan: Plan, image: usize, rate: Rate, command: u8, payload: &[u8]) -> Move
+    ensures { λ r. ⌜ r ≡ parametersAnswer plan image rate command (now (payload .entry)) ⌝ }
+{
+    if !fits(commands::PARAMETERS, 3, command, payload.len()) {
+        return Move::Stay;
+    }
+    let most = wide(octets::two_at(payload, 0));
+    parameters_move(plan, image, rate, most, octets::byte_at(payload, 2))
+}
+
+// An answer to 0x05.
+fn packet_answer(
+    plan: Plan,
+    image: usize,
+    rate: Rate,
+    size: usize,
+    number: usize,
+    command: u8,
+    payload: &[u8],
+) -> Move
+    requires { ⌜ number ≤ 65535 ⌝ }
+    ensures { λ r. ⌜ r ≡ packetAnswer plan image rate size number command (now (payload .entry)) ⌝ }
+{
+    if !fits(commands::PACKET, 3, command, payload.len()) {
+        return Move::Stay;
+    }
+    let given = wide(octets::two_at(payload, 0));
+    packet_move(
+        plan,
+        image,
+        rate,
+        size,
+        number,
+        given,
+        octets::byte_at(payload, 2),
+    )
+}
+
+// The notice.
+fn notice_answer(rate: Rate, size: usize, command: u8, payload: &[u8]) -> Move
+    ensures { λ r. ⌜ r ≡ noticeAnswer rate size command (now (payload .entry)) ⌝ }
+{
+    if !fits(commands::NOTICE, 1, command, payload.len()) {
+        return Move::Stay;
+    }
+    notice_move(rate, size, octets::byte_at(payload, 0))
+}
+
+// An answer to 0x06.
+fn restart_answer(command: u8, payload: &[u8]) -> Move
+    ensures { λ r. ⌜ r ≡ restartAnswer command (now (payload .entry)) ⌝ }
+{
+    if !fits(commands::RESTART, 1, command, payload.len()) {
+        return Move::Stay;
+    }
+    by_ack(
+        octets::byte_at(payload, 0),
+        Move::Finish,
+        Move::Stay,
+        Move::Stay,
+    )
 }
 
 // A line of text at a stage.
