@@ -12,3 +12,7 @@ pub mod SessionLaws
 pub mod AnswersLaws
 pub mod Turns
 pub mod Bench
+pub mod Arises
+pub mod Forward
+pub mod Load
+pub mod Reach

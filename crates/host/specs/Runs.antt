@@ -2,8 +2,6 @@
 use Prim.Native.Nat.{ℕ}
 use mathlib.Core.List.{List, [], _∷_, _++_}
 use lib.ListN.{take}
-use Rattle.octets.specs.Octets.{Bytes}
-use Rattle.wire.specs.Frame.{Frame}
 use Rattle.host.specs.Step.{Left, stepOf}
 use Rattle.host.specs.declared.session.Session.{Session}
 use Rattle.host.specs.declared.session.Event.{Event}

@@ -1,8 +1,7 @@
 -- The host's session: its plan, its stages, and which numbers of a session can arise.
-use Prim.Native.Nat.{ℕ, _-_, _+_}
-use mathlib.Core.Bool.{Bool, true, false, cond, _&&_}
-use mathlib.Core.List.{List}
-use lib.Dec.{eqb, ltb, leb}
+use Prim.Native.Nat.{ℕ, _-_}
+use mathlib.Core.Bool.{Bool, true, false, _&&_}
+use lib.Dec.{ltb, leb}
 use Rattle.kinds.specs.Kinds.{fitsFile}
 use Rattle.pieces.specs.Pieces.{countOf}
 use Rattle.commands.specs.Commands.{largestPacket, largestTotal}

@@ -2,7 +2,7 @@
 use Prim.Native.Nat.{ℕ, _+_, _-_}
 use mathlib.Core.Bool.{cond}
 use mathlib.Core.List.{List}
-use lib.Dec.{eqb, ltb, leb}
+use lib.Dec.{eqb, ltb}
 use lib.ListN.{length, take}
 use Rattle.octets.specs.Octets.{over}
 use Rattle.refusals.specs.Refusals.{noRoom, wrongLength, wrongType, wrongImageLength, wrongPieces, noAnswer}

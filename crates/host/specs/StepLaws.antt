@@ -1,12 +1,13 @@
 -- The laws of Step.
-use Prim.Native.Nat.{ℕ, _≤_}
+use Prim.Native.Nat.{ℕ, _≤_, _<_}
 use mathlib.Core.Bool.{Bool, true, false, cond}
 use mathlib.Core.List.{List}
 use mathlib.Core.Path.{_≡_, sym, ap, _∙_}
 use native.Mathlib.Omega.{arith}
-use borrow.Author.Tests.{eq-eqb, ne-eqb}
+use borrow.Author.Tests.{eq-eqb, ne-eqb, lt-ltb, le-ltb}
 use lib.Dec.{ltb}
 use lib.ListN.{length}
+use Rattle.octets.specs.Choice.{cond-yes, cond-no}
 use Rattle.octets.specs.Octets.{over}
 use Rattle.refusals.specs.Refusals.{noRoom, wrongLength}
 use Rattle.refusals.specs.Written.{Out, refused, written, countOf, refusalOf}
@@ -122,3 +123,16 @@ module _ (s : Session) (e : Event) (bytes image output : List ℕ) where
   unfolding stepOf
   step-phase l a phase told =
       rw (eq-eqb (length image) (s .image) l, a) (ap (λ (p : Phase). phaseStep s p e bytes image output) told)
+
+-- ---- room
+
+-- A message is sent where there is room, else all stays as lent.
+pub sends-fits : (s : Session) (next : Stepped) (message output : List ℕ) → length message ≤ length output
+    → sends s next message output ≡ left next (over message output)
+unfolding sends
+sends-fits s next message output h = cond-no _ _ _ (le-ltb (length output) (length message) h)
+
+pub sends-short : (s : Session) (next : Stepped) (message output : List ℕ) → length output < length message
+    → sends s next message output ≡ left (stepped s (Refused noRoom)) output
+unfolding sends
+sends-short s next message output h = cond-yes _ _ _ (lt-ltb (length output) (length message) h)

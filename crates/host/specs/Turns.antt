@@ -14,7 +14,7 @@ use Rattle.octets.specs.OctetsLaws.{little-spelled, spelled-little, length-spel
 use Rattle.octets.specs.PartLaws.{number-short}
 use Rattle.octets.specs.Lists.{bytes-take}
 use Rattle.octets.specs.Choice.{cond-yes, cond-no, either-way, both}
-use Rattle.refusals.specs.Refusals.{noRoom, noAnswer, moduleRefused}
+use Rattle.refusals.specs.Refusals.{noAnswer, moduleRefused}
 use Rattle.pieces.specs.Pieces.{countOf}
 use Rattle.wire.specs.Frame.{Frame, wireOf}
 use Rattle.commands.specs.Commands.{accepted, wrongFirst, wrongSecond, notUnderstood, largestTotal}
@@ -28,6 +28,7 @@ use Rattle.host.specs.AnswersLaws.{accepted-last, fitting-facts, ack-acc
 use Rattle.host.specs.AnswersLaws.{rate-asked, rate-none, size-begins, size-stops, parameters-ack}
 use Rattle.host.specs.AnswersLaws.{accepted-before, packet-this, packet-none, notice-good, notice-bad, text-same}
 use Rattle.host.specs.Step.{left, waitingOf, endedOf, sends, resends, moved, timeStep, eventStep, phaseStep, stepOf}
+use Rattle.host.specs.StepLaws.{sends-fits, sends-short}
 use Rattle.host.specs.Runs.{Given, leaves}
 use Rattle.host.specs.Promises.{Hears, HearsLine, PacketAccepted, accepts, same, Follows, started, agreed, lowered, declared}
 use Rattle.host.specs.Promises.{continued, noticed, Due, late, rate-again, rate-0-again, parameters-again, packet-again}
@@ -49,7 +50,6 @@ use Rattle.host.specs.declared.session.Event.the-variants.{Line, Elapsed
 use Rattle.host.specs.declared.session.Event.the-variants as event
 use Rattle.host.specs.declared.session.Answer.{Answer}
 use Rattle.host.specs.declared.session.Answer.the-variants.{Nothing, Sent, Refused}
-use Rattle.host.specs.declared.session.Stepped.{Stepped}
 use Rattle.host.specs.declared.answers.Move.{Move}
 use Rattle.host.specs.declared.answers.Move.the-variants.{Stay, Enter, Await, Resend, Refuse, TooMany, Finish}
 
@@ -288,17 +288,6 @@ module _ (w : Wait) (g : Given) where
       fitting-reason 1 command count (restartReply (getD p 0 0)) _ ev (one-byte p) (restart-reason rate size (getD p 0 0) e)
 
 -- ---- a message and its room
-
--- A message is sent where there is room, else all stays as lent.
-sends-fits : (s : Session) (next : Stepped) (message output : List ℕ) → length message ≤ length output
-    → sends s next message output ≡ left next (over message output)
-unfolding sends
-sends-fits s next message output h = cond-no _ _ _ (le-ltb (length output) (length message) h)
-
-sends-short : (s : Session) (next : Stepped) (message output : List ℕ) → length output < length message
-    → sends s next message output ≡ left (stepped s (Refused noRoom)) output
-unfolding sends
-sends-short s next message output h = cond-yes _ _ _ (lt-ltb (length output) (length message) h)
 
 -- A message is sent again up to 3 times, then the session ends.
 resends-more : (s : Session) (w : Wait) (image output : List ℕ) → w .repeats < mostRepeats

@@ -29,6 +29,11 @@ pub image-short : (k : Kind) (n : ℕ) → fitsFile k n ≡ true → n ≤ longe
 unfolding fitsFile
 image-short k n h = leb-true n longestImage (both (leb n longestImage) _ (both (leb 1 n) _ h .1) .0)
 
+-- It has a byte.
+pub file-some : (k : Kind) (n : ℕ) → fitsFile k n ≡ true → 1 ≤ n
+unfolding fitsFile
+file-some k n h = leb-true 1 n (both (leb 1 n) _ h .0)
+
 -- No kind's address lies behind 0x3E000.
 pub base-short : (k : Kind) → baseOf k ≤ 0x3E000
 base-short Navigation = omega arith

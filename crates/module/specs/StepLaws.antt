@@ -15,11 +15,9 @@ use Rattle.refusals.specs.Written.{Out}
 use Rattle.refusals.specs.Written as written
 use Rattle.refusals.specs.declared.Written.{Written}
 use Rattle.refusals.specs.declared.Written.the-variants as writes
-use Rattle.wire.specs.EscapeLaws.{escaped-size}
 use Rattle.wire.specs.Frame.{Frame, contentOf, wireOf}
-use Rattle.wire.specs.FrameLaws.{length-content}
 use Rattle.wire.specs.Write.{writeOf}
-use Rattle.wire.specs.WriteLaws.{wire-size, write-done}
+use Rattle.wire.specs.WriteLaws.{wire-size, wire-most, write-done}
 use Rattle.module.specs.Session.{session, stepped, takes}
 use Rattle.module.specs.Step.{left, smallestReply, wiresOf, answerOf, performed, frameStep, timeStep, eventStep, stepOf}
 use Rattle.module.specs.Rules.{framesOf, putOf, decideOf}
@@ -39,11 +37,6 @@ pub record Wrote (f : Frame) (n : ℕ) (before after : List ℕ) : Type 0 where
   pub count : n ≡ length (wireOf f)
   pub most : n ≤ 18
   pub front : after ≡ over (wireOf f) before
-
--- A wire form has at most twice the payload's bytes and twelve more.
-pub wire-most : (f : Frame) → length (wireOf f) ≤ length (f .payload) + length (f .payload) + 12
-unfolding wireOf
-wire-most f = omega (arith, wire-size (contentOf f), escaped-size (contentOf f), length-content f)
 
 -- In a buffer of 18 bytes the writer never refuses such a frame.
 module _ (f : Frame) (before : List ℕ) (few : length (f .payload) ≤ 3) (room : 18 ≤ length before) where

@@ -14,8 +14,8 @@ use Rattle.wire.specs.Escape.{headMark, escapeMark, tailMark, isMark, se
 use Rattle.refusals.specs.Refusals.{payloadTooLong, noRoom}
 use Rattle.wire.specs.Write.{writeOf}
 use Rattle.refusals.specs.Written.{refused, written}
-use Rattle.wire.specs.EscapeLaws.{escape-mark, escape-plain, escaped-append, escaped-snoc}
-use Rattle.wire.specs.FrameLaws.{length-unchecked}
+use Rattle.wire.specs.EscapeLaws.{escape-mark, escape-plain, escaped-append, escaped-snoc, escaped-size}
+use Rattle.wire.specs.FrameLaws.{length-unchecked, length-content}
 use Rattle.wire.specs.Frame.{Frame, device, longestPayload, uncheckedOf, contentOf, wireForm, wireOf}
 
 -- Length, device, command and payload, each put at its place, are the content before its check.
@@ -63,6 +63,11 @@ escaped-prefix s i =
 pub wire-size : (s : List ℕ) → length (wireForm s) ≡ length (escaped s) + 2
 unfolding wireForm
 wire-size s = simp length-append (omega arith)
+
+-- The wire form of a frame has at most twice the payload's bytes and twelve more.
+pub wire-most : (f : Frame) → length (wireOf f) ≤ length (f .payload) + length (f .payload) + 12
+unfolding wireOf
+wire-most f = omega (arith, wire-size (contentOf f), escaped-size (contentOf f), length-content f)
 
 -- With the tail behind all content bytes, the wire form stands there.
 pub begun-all : (s : List ℕ) (i : ℕ) → length s ≤ i → begun s i ++ (tailMark ∷ []) ≡ wireForm s
