@@ -28,7 +28,7 @@ use Rattle.host.specs.AnswersLaws.{ack-accepted, rate-asked, Carried, si
 use Rattle.host.specs.AnswersLaws.{accepted-last, accepted-before}
 use Rattle.host.specs.Step.{Left, left, Wishes, sends, waitingOf, endedOf, enters, moved, eventStep, stepOf}
 use Rattle.host.specs.Step.{planOf, planOpening, openingOf}
-use Rattle.host.specs.MessagesLaws.{piece-most, length-packet, length-parameters}
+use Rattle.commands.specs.CommandsLaws.{piece-most, length-packet, length-parameters}
 use Rattle.host.specs.StepLaws.{Small, sends-fits}
 use Rattle.host.specs.Runs.{Given, leaves, sentBy}
 use Rattle.host.specs.Promises.{Hears, HearsLine, line, frame, GoodStep}

@@ -2,12 +2,14 @@
 use borrow.Author.Needs.{needs}
 use mathlib.Core.Path.{sym, ap, _∙_}
 use native.Mathlib.Omega.{arith}
-use Rattle.wire.specs.Frame.{wireOf}
+use lib.ListN.{length}
+use Rattle.pieces.specs.Pieces.{countOf}
 use Rattle.wire.specs.Write.{writeOf}
-use Rattle.commands.specs.Commands.{rateFrame, packetFrame}
+use Rattle.commands.specs.Commands.{rateFrame, parametersFrame, packetFrame}
+use Rattle.commands.specs.CommandsLaws.{length-parameters}
 use Rattle.host.specs.Session.{numberOfRate}
 use Rattle.host.specs.Messages.{messageOf, sentOf}
-use Rattle.host.specs.MessagesLaws.{sent-frame}
+use Rattle.host.specs.MessagesLaws.{sent-frame, sent-packet}
 use Rattle.host.specs.StepLaws.{small-same}
 use Rattle.host.proofs.messages.send.Statement.{statement}
 use Rattle.host.proofs.messages.send.Tie as tie
@@ -33,15 +35,14 @@ write-requires c κs = search needs
 enum-told-2 : tie.Need-enum-told-2
 enum-told-2 c = search needs
 
-send-parameters-requires : tie.Need-send-parameters-requires
-send-parameters-requires c κs = search needs
+write-parameters-requires : tie.Need-write-parameters-requires
+write-parameters-requires c κs = search needs
 
 enum-known-stage-2 : tie.Need-enum-known-stage-2
 enum-known-stage-2 c = search needs
 
-send-packet-requires : tie.Need-send-packet-requires
-send-packet-requires c κs =
-    small-same _ _ (c .before .before .stage2 .given .1) (c .before .before .before .before .before .before .pre) .0
+write-packet-requires : tie.Need-write-packet-requires
+write-packet-requires c κs = search needs
 
 enum-known-stage-3 : tie.Need-enum-known-stage-3
 enum-known-stage-3 c = search needs
@@ -49,9 +50,8 @@ enum-known-stage-3 c = search needs
 count-requires : tie.Need-count-requires
 count-requires c κs = search needs
 
-send-packet-requires-2 : tie.Need-send-packet-requires-2
-send-packet-requires-2 c κs =
-    small-same _ _ (c .before .before .before .stage3 .given .1) (c .before .before .before .before .before .before .before .pre)
+write-packet-requires-2 : tie.Need-write-packet-requires-2
+write-packet-requires-2 c κs = search needs
 
 enum-told-3 : tie.Need-enum-told-3
 enum-told-3 c = search needs
@@ -88,7 +88,9 @@ returns-3 : tie.Need-returns-3
 returns-3 c =
     let a = c .before .before .before .before .before .before .before .before .args in
     let told = c .before .before .before .before .enum-told2 .given in
-    c .before .before .send-parameters .ensures
+    c .before .before .write-parameters .ensures
+    ∙ sent-frame (parametersFrame (a .plan .kind) (length (a .image .now))) (a .out .now)
+    (omega (arith, length-parameters (a .plan .kind) (length (a .image .now))))
     ∙ sym (ap (λ s. sentOf (messageOf (a .plan) (a .image .now) s) (a .out .now)) (told .1))
 
 same-length-4 : tie.Need-same-length-4
@@ -96,9 +98,11 @@ same-length-4 c = search needs
 
 returns-4 : tie.Need-returns-4
 returns-4 c =
-    let a = c .before .before .before .before .before .before .before .before .before .args in
+    let start = c .before .before .before .before .before .before .before .before .before in
+    let a = start .args in
     let told = c .before .before .before .before .before .stage2 .given in
-    c .before .before .send-packet .ensures
+    c .before .before .write-packet .ensures
+    ∙ sent-packet (a .image .now) (told .0 .1 .0) (told .0 .1 .1 .0) (a .out .now) (small-same _ _ (told .1) (start .pre) .0)
     ∙ sym (ap (λ s. sentOf (messageOf (a .plan) (a .image .now) s) (a .out .now)) (told .1))
 
 same-length-5 : tie.Need-same-length-5
@@ -106,11 +110,13 @@ same-length-5 c = search needs
 
 returns-5 : tie.Need-returns-5
 returns-5 c =
-    let a = c .before .before .before .before .before .before .before .before .before .before .args in
+    let start = c .before .before .before .before .before .before .before .before .before .before in
+    let a = start .args in
     let told = c .before .before .before .before .before .before .stage3 .given in
-    c .before .before .send-packet2 .ensures
-    ∙ ap (λ k. sentOf (wireOf (packetFrame (a .image .now) (told .0 .1 .0) k)) (a .out .now))
-    (c .before .before .before .before .count .ensures)
+    c .before .before .write-packet2 .ensures
+    ∙ ap (λ k. writeOf (packetFrame (a .image .now) (told .0 .1 .0) k) (a .out .now)) (c .before .before .before .before .count .ensures)
+    ∙ sent-packet (a .image .now) (told .0 .1 .0) (countOf (length (a .image .now)) (told .0 .1 .0)) (a .out .now)
+    (small-same _ _ (told .1) (start .pre))
     ∙ sym (ap (λ s. sentOf (messageOf (a .plan) (a .image .now) s) (a .out .now)) (told .1))
 
 same-length-6 : tie.Need-same-length-6
@@ -134,12 +140,12 @@ send-spec =
     slice-aggregate-write
     write-requires
     enum-told-2
-    send-parameters-requires
+    write-parameters-requires
     enum-known-stage-2
-    send-packet-requires
+    write-packet-requires
     enum-known-stage-3
     count-requires
-    send-packet-requires-2
+    write-packet-requires-2
     enum-told-3
     send-restart-requires
     same-length

@@ -1,4 +1,4 @@
--- `send_parameters`: type, length and token in ten bytes.
+-- `write_parameters`: type, length and token in ten bytes.
 use borrow.Author.Needs.{needs}
 use mathlib.Core.Path.{ap, ap₂, _∙_}
 use mathlib.Core.List.{List}
@@ -7,10 +7,10 @@ use native.Mathlib.Omega.{arith}
 use lib.ListN.{length, replicate, length-replicate}
 use Rattle.octets.specs.Octets.{laid, spelled}
 use Rattle.wire.specs.Write.{writeOf}
 use Rattle.commands.specs.Commands.{parametersCommand, frame, parametersFrame}
-use Rattle.host.specs.MessagesLaws.{length-parameters, parameters-built, sent-frame}
-use Rattle.host.proofs.messages.send_parameters.Statement.{statement}
-use Rattle.host.proofs.messages.send_parameters.Tie as tie
+use Rattle.commands.specs.CommandsLaws.{length-parameters, parameters-built}
+use Rattle.commands.proofs.write_parameters.Statement.{statement}
+use Rattle.commands.proofs.write_parameters.Tie as tie
 
 slice-aggregate-put-two : tie.Need-slice-aggregate-put-two
 slice-aggregate-put-two c = search needs
@@ -61,10 +61,9 @@ returns c =
     let built = token ∙ parameters-built (a .kind) (a .length) zeros (length-replicate {A = ℕ} 10 0) in
     c .before .before .write .ensures
     ∙ ap (λ p. writeOf (frame parametersCommand p) (a .out .now)) built
-    ∙ sent-frame (parametersFrame (a .kind) (a .length)) (a .out .now) (omega (arith, length-parameters (a .kind) (a .length)))
 
-pub send-parameters-spec : {M : Type 1} → statement M
-send-parameters-spec =
+pub write-parameters-spec : {M : Type 1} → statement M
+write-parameters-spec =
     tie.close
     (tie.spec
     slice-aggregate-put-two
