@@ -3,6 +3,7 @@ use Prim.Native.Nat.{ℕ}
 use mathlib.Core.List.{List, [], _∷_, _++_}
 use lib.ListN.{length}
 use Rattle.octets.specs.Octets.{spelled}
+use Rattle.refusals.specs.Refusals.{textOf}
 use Rattle.kinds.specs.Kinds.{numberOf, tokenOf}
 use Rattle.kinds.specs.declared.Kind.{Kind}
 use Rattle.pieces.specs.Pieces.{countOf, pieceOf}
@@ -72,6 +73,13 @@ packetFrame image size k = frame packetCommand (packetFor image size k)
 -- 0x06 carries nothing.
 abbrev pub restartFrame : Frame
 restartFrame = frame restartCommand []
+
+-- The start text and its answer, each with CR LF.
+abbrev pub startText : List ℕ
+startText = textOf "$PCAS20*03\r\n"
+
+abbrev pub startAnswer : List ℕ
+startAnswer = textOf "$PCAS30,3*1D\r\n"
 
 -- ---- what the module answers
 

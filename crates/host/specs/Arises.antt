@@ -4,7 +4,7 @@ use mathlib.Core.Bool.{true, _&&_}
 use mathlib.Core.List.{List, [], _∷_}
 use mathlib.Core.Path.{_≡_, refl}
 use native.Mathlib.Omega.{arith}
-use borrow.Author.Tests.{eqb-true, eqb-false, ltb-true, leb-true}
+use borrow.Author.Tests.{eqb-true, ltb-true, leb-true}
 use lib.Dec.{eqb, ltb, leb}
 use lib.ListN.{length, take, getD}
 use Rattle.octets.specs.Choice.{either-way, both}
@@ -17,26 +17,27 @@ use Rattle.pieces.specs.Pieces.{countOf}
 use Rattle.pieces.specs.PiecesLaws.{count-some}
 use Rattle.commands.specs.Commands.{rateCommand, parametersCommand, packetCommand, restartCommand, noticeCommand}
 use Rattle.commands.specs.Commands.{largestPacket, largestTotal}
-use Rattle.host.specs.Session.{numberOfRate, mostRepeats, limitOf, session, firstStage, rateFits, stageFits, arises}
-use Rattle.host.specs.SessionLaws.{facts-rate, rate-facts, facts-sending, sending-facts, SendingOf, facts-sent}
+use Rattle.stages.specs.Stages.{numberOfRate, rateFits, stageFits}
+use Rattle.host.specs.Session.{mostRepeats, limitOf, session, firstStage, arises}
+use Rattle.stages.specs.StagesLaws.{facts-rate, rate-facts, facts-sending, sending-facts, SendingOf, facts-sent}
 use Rattle.host.specs.SessionLaws.{WaitOf, wait-facts, facts-wait}
-use Rattle.host.specs.Answers.{lowerMove, rateMove, pieceSize, sizeMove, parametersMove, acceptedMove, sameMove, packetMove}
-use Rattle.host.specs.Answers.{noticeMove, frameMove, textMove, lineMove}
-use Rattle.host.specs.AnswersLaws.{ack-any, where-any, piece-packet, piece-wish}
-use Rattle.host.specs.Messages.{startAnswer}
+use Rattle.stages.specs.Answers.{lowerMove, rateMove, pieceSize, sizeMove, parametersMove, acceptedMove, sameMove, packetMove}
+use Rattle.stages.specs.Answers.{noticeMove, frameMove, textMove, lineMove}
+use Rattle.stages.specs.AnswersLaws.{ack-any, where-any, piece-packet, piece-wish}
+use Rattle.commands.specs.Commands.{startAnswer}
 use Rattle.host.specs.Step.{Left, Wishes, sends, waitingOf, enters, resends, moved, timeStep, eventStep, phaseStep, stepOf}
 use Rattle.host.specs.Step.{planOf, planOpening, knownOpening, openingOf}
 use Rattle.host.specs.Runs.{Given, leaves, afterOf}
 use Rattle.host.specs.Promises.{ReachedArises}
-use Rattle.host.specs.declared.session.Rate.{Rate}
-use Rattle.host.specs.declared.session.Rate.the-variants.{R9600, R19200, R38400, R57600, R115200}
-use Rattle.host.specs.declared.session.Start.{Start}
-use Rattle.host.specs.declared.session.Start.the-variants.{WithText, AtOnce}
-use Rattle.host.specs.declared.session.Same.{Same}
-use Rattle.host.specs.declared.session.Same.the-variants.{GoOn, Stop}
-use Rattle.host.specs.declared.session.Plan.{Plan}
-use Rattle.host.specs.declared.session.Stage.{Stage}
-use Rattle.host.specs.declared.session.Stage.the-variants.{Text, Asking, Declaring, Sending, Noticing, Restarting}
+use Rattle.stages.specs.declared.plan.Rate.{Rate}
+use Rattle.stages.specs.declared.plan.Rate.the-variants.{R9600, R19200, R38400, R57600, R115200}
+use Rattle.stages.specs.declared.plan.Start.{Start}
+use Rattle.stages.specs.declared.plan.Start.the-variants.{WithText, AtOnce}
+use Rattle.stages.specs.declared.plan.Same.{Same}
+use Rattle.stages.specs.declared.plan.Same.the-variants.{GoOn, Stop}
+use Rattle.stages.specs.declared.plan.Plan.{Plan}
+use Rattle.stages.specs.declared.plan.Stage.{Stage}
+use Rattle.stages.specs.declared.plan.Stage.the-variants.{Text, Asking, Declaring, Sending, Noticing, Restarting}
 use Rattle.host.specs.declared.session.Wait.{Wait}
 use Rattle.host.specs.declared.session.Phase.{Phase}
 use Rattle.host.specs.declared.session.Phase.the-variants.{Ended, Waiting}
@@ -44,8 +45,8 @@ use Rattle.host.specs.declared.session.Session.{Session}
 use Rattle.host.specs.declared.session.Event.{Event}
 use Rattle.host.specs.declared.session.Event.the-variants.{Frame, Line, Elapsed}
 use Rattle.host.specs.declared.session.Stepped.{Stepped}
-use Rattle.host.specs.declared.answers.Move.{Move}
-use Rattle.host.specs.declared.answers.Move.the-variants.{Stay, Enter, Await, Resend, Refuse, TooMany, Finish}
+use Rattle.stages.specs.declared.answers.Move.{Move}
+use Rattle.stages.specs.declared.answers.Move.the-variants.{Stay, Enter, Await, Resend, Refuse, TooMany, Finish}
 
 -- ---- where a move leads
 
@@ -104,13 +105,13 @@ module _ (plan : Plan) (image : ℕ) where
       → FitsMove plan image (acceptedMove image rate size number)
   unfolding acceptedMove
   fits-accepted rate size number s =
-      either-way (FitsMove plan image) (eqb number (countOf image size))
-      (λ _. facts-sent plan image rate size (record { asked = s .asked; cut = s .cut }))
+      either-way (FitsMove plan image) (ltb number (countOf image size))
       (λ e. facts-sending plan image rate size (number + 1) (record {
         asked = s .asked;
         cut = s .cut;
-        this = record { one = omega arith; most = omega (arith, s .this .most, eqb-false number (countOf image size) e) };
+        this = record { one = omega arith; most = omega (arith, ltb-true number (countOf image size) e) };
       }))
+      (λ _. facts-sent plan image rate size (record { asked = s .asked; cut = s .cut }))
 
   fits-same : (way : Same) (move : Move) → FitsMove plan image move → FitsMove plan image (sameMove way move)
   fits-same GoOn move h = h

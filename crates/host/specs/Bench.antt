@@ -1,7 +1,7 @@
 -- Document 01's bench example of piece counts, by computation.
 use mathlib.Core.Path.{refl}
 use Rattle.pieces.specs.Pieces.{countOf}
-use Rattle.host.specs.Answers.{sizeMove}
+use Rattle.stages.specs.Answers.{sizeMove}
 use Rattle.host.specs.Promises.{PieceCounts}
 
 pub piece-counts : PieceCounts

@@ -19,32 +19,36 @@ use Rattle.commands.specs.Commands.{accepted, wrongFirst, wrongSecond}
 use Rattle.commands.specs.Commands.{rateCommand, parametersCommand, packetCommand, restartCommand, noticeCommand}
 use Rattle.commands.specs.Commands.{rateReply, parametersReply, packetReply, restartReply, notice}
 use Rattle.commands.specs.Commands.{rateFrame, parametersFrame, packetFrame, restartFrame}
-use Rattle.host.specs.Session.{numberOfRate, mostRepeats, limitOf, session, wait, stepped, firstStage, stageFits}
-use Rattle.host.specs.SessionLaws.{WaitOf, stage-small, sending-facts}
-use Rattle.host.specs.Messages.{startAnswer, messageOf}
-use Rattle.host.specs.Answers.{byAck, lowerMove, pieceSize, sizeMove, parametersMove, acceptedMove, sameMove, noticeMove}
-use Rattle.host.specs.Answers.{fitting, frameMove, lineMove}
-use Rattle.host.specs.AnswersLaws.{ack-accepted, rate-asked, Carried, size-begins, parameters-ack, packet-this, text-same}
-use Rattle.host.specs.AnswersLaws.{accepted-last, accepted-before}
+use Rattle.stages.specs.Stages.{numberOfRate, stageFits}
+use Rattle.host.specs.Session.{mostRepeats, limitOf, session, wait, stepped, firstStage}
+use Rattle.host.specs.SessionLaws.{WaitOf}
+use Rattle.stages.specs.StagesLaws.{stage-small, sending-facts}
+use Rattle.commands.specs.Commands.{startAnswer}
+use Rattle.host.specs.Messages.{messageOf}
+use Rattle.stages.specs.Answers.{byAck, lowerMove, pieceSize, sizeMove, parametersMove, acceptedMove, sameMove, noticeMove}
+use Rattle.stages.specs.Answers.{fitting, frameMove, lineMove}
+use Rattle.stages.specs.AnswersLaws.{ack-accepted, rate-asked, Carried, size-begins, parameters-ack, packet-this, text-same}
+use Rattle.stages.specs.AnswersLaws.{accepted-last, accepted-before}
 use Rattle.host.specs.Step.{Left, left, Wishes, sends, waitingOf, endedOf, enters, moved, eventStep, stepOf}
 use Rattle.host.specs.Step.{planOf, planOpening, openingOf}
 use Rattle.commands.specs.CommandsLaws.{piece-most, length-packet, length-parameters}
-use Rattle.host.specs.StepLaws.{Small, sends-fits}
+use Rattle.stages.specs.StagesLaws.{Small}
+use Rattle.host.specs.StepLaws.{sends-fits}
 use Rattle.host.specs.Runs.{Given, leaves, sentBy}
 use Rattle.host.specs.Promises.{Hears, HearsLine, line, frame, GoodStep}
 use Rattle.host.specs.Arises.{FitsMove, fits-frame, fits-line, wait-arises, limit-within, first-fits}
-use Rattle.host.specs.declared.session.Rate.{Rate}
-use Rattle.host.specs.declared.session.Start.{Start}
-use Rattle.host.specs.declared.session.Plan.{Plan}
-use Rattle.host.specs.declared.session.Stage.{Stage}
-use Rattle.host.specs.declared.session.Stage.the-variants.{Text, Asking, Declaring, Sending, Noticing, Restarting}
+use Rattle.stages.specs.declared.plan.Rate.{Rate}
+use Rattle.stages.specs.declared.plan.Start.{Start}
+use Rattle.stages.specs.declared.plan.Plan.{Plan}
+use Rattle.stages.specs.declared.plan.Stage.{Stage}
+use Rattle.stages.specs.declared.plan.Stage.the-variants.{Text, Asking, Declaring, Sending, Noticing, Restarting}
 use Rattle.host.specs.declared.session.Wait.{Wait}
 use Rattle.host.specs.declared.session.Phase.the-variants.{Waiting}
 use Rattle.host.specs.declared.session.Session.{Session}
 use Rattle.host.specs.declared.session.Event.{Event}
 use Rattle.host.specs.declared.session.Answer.the-variants.{Sent, Done}
-use Rattle.host.specs.declared.answers.Move.{Move}
-use Rattle.host.specs.declared.answers.Move.the-variants.{Stay, Enter, Await, Refuse, Finish}
+use Rattle.stages.specs.declared.answers.Move.{Move}
+use Rattle.stages.specs.declared.answers.Move.the-variants.{Stay, Enter, Await, Refuse, Finish}
 
 -- ---- how long a message is
 
@@ -256,14 +260,14 @@ module _ (plan : Plan) (image : List ℕ) (g : Given) where
       (Sending rate size number) (Sending rate size (number + 1)) g
   packet-step rate size number less f good =
       frame-enters plan image (Sending rate size number) (Sending rate size (number + 1)) _ g f good
-      (packet-accepted rate size number f ∙ accepted-before (length image) rate size number (λ e. omega (arith, e, less)))
+      (packet-accepted rate size number f ∙ accepted-before (length image) rate size number less)
 
   pub last-step : (rate : Rate) (size number : ℕ) → number ≡ countOf (length image) size → Fits plan image (Sending rate size number)
       → GoodStep image (frame (packetReply number accepted)) g
       → Leads plan image [] (Sending rate size number) (Noticing rate size) g
   last-step rate size number last f good =
       frame-awaits plan image (Sending rate size number) (Noticing rate size) _ g f good
-      (packet-accepted rate size number f ∙ accepted-last (length image) rate size number last)
+      (packet-accepted rate size number f ∙ accepted-last (length image) rate size number (omega (arith, last)))
 
   -- The notice has State 0.
   pub notice-step : (rate : Rate) (size : ℕ) → Fits plan image (Noticing rate size) → GoodStep image (frame (notice 0)) g

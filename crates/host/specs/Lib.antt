@@ -1,15 +1,13 @@
--- What the contracts of this crate cite (Session, Messages, Answers, Step), the runs that the promises speak of, the promises, and
+-- What the contracts of this crate cite (Session, Messages, Step), the runs that the promises speak of, the promises, and
 -- below them their proofs: the laws of each, and a file for each promise.
 pub mod Session
 pub mod Messages
-pub mod Answers
 pub mod Step
 pub mod Runs
 pub mod Promises
 pub mod StepLaws
 pub mod MessagesLaws
 pub mod SessionLaws
-pub mod AnswersLaws
 pub mod Turns
 pub mod Bench
 pub mod Arises

@@ -15,10 +15,11 @@ use Rattle.pieces.specs.PiecesLaws.{take-more, take-whole, count-some}
 use Rattle.wire.specs.Frame.{wireOf}
 use Rattle.commands.specs.Commands.{accepted, parametersReply, restartReply, notice}
 use Rattle.commands.specs.Commands.{rateFrame, parametersFrame, packetFrame, restartFrame}
-use Rattle.host.specs.Session.{numberOfRate, firstStage}
+use Rattle.stages.specs.Stages.{numberOfRate}
+use Rattle.host.specs.Session.{firstStage}
 use Rattle.host.specs.Messages.{messageOf}
-use Rattle.host.specs.Answers.{pieceSize}
-use Rattle.host.specs.AnswersLaws.{Carried}
+use Rattle.stages.specs.Answers.{pieceSize}
+use Rattle.stages.specs.AnswersLaws.{Carried}
 use Rattle.host.specs.Step.{Left, Wishes, planOf, openingOf}
 use Rattle.host.specs.Runs.{Given, leaves, sentBy, sentOver, answersOf}
 use Rattle.host.specs.Promises.{piecesFrom, PiecesAreImage, Heard, frame, packetsHeard, framesHeard, startHeard}
@@ -26,12 +27,12 @@ use Rattle.host.specs.Promises.{GoodSteps, packetsSent, startSent, GoodL
 use Rattle.host.specs.Arises.{first-fits}
 use Rattle.host.specs.Forward.{arrived, Fits, Leads, text-step, rate-step, parameters-step, packet-step, last-step, notice-step}
 use Rattle.host.specs.Forward.{restart-step, opening-sends}
-use Rattle.host.specs.declared.session.Rate.{Rate}
-use Rattle.host.specs.declared.session.Start.{Start}
-use Rattle.host.specs.declared.session.Start.the-variants.{WithText, AtOnce}
-use Rattle.host.specs.declared.session.Plan.{Plan}
-use Rattle.host.specs.declared.session.Stage.{Stage}
-use Rattle.host.specs.declared.session.Stage.the-variants.{Text, Asking, Declaring, Sending, Noticing, Restarting}
+use Rattle.stages.specs.declared.plan.Rate.{Rate}
+use Rattle.stages.specs.declared.plan.Start.{Start}
+use Rattle.stages.specs.declared.plan.Start.the-variants.{WithText, AtOnce}
+use Rattle.stages.specs.declared.plan.Plan.{Plan}
+use Rattle.stages.specs.declared.plan.Stage.{Stage}
+use Rattle.stages.specs.declared.plan.Stage.the-variants.{Text, Asking, Declaring, Sending, Noticing, Restarting}
 use Rattle.host.specs.declared.session.Session.{Session}
 use Rattle.host.specs.declared.session.Answer.{Answer}
 use Rattle.host.specs.declared.session.Answer.the-variants.{Done}

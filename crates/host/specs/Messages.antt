@@ -4,22 +4,15 @@ use mathlib.Core.Bool.{cond}
 use mathlib.Core.List.{List}
 use lib.Dec.{ltb}
 use lib.ListN.{length}
-use Rattle.refusals.specs.Refusals.{noRoom, textOf}
+use Rattle.refusals.specs.Refusals.{noRoom}
 use Rattle.refusals.specs.Written.{Out, refused, written}
 use Rattle.pieces.specs.Pieces.{countOf}
 use Rattle.wire.specs.Frame.{wireOf}
-use Rattle.commands.specs.Commands.{rateFrame, parametersFrame, packetFrame, restartFrame}
-use Rattle.host.specs.Session.{numberOfRate}
-use Rattle.host.specs.declared.session.Plan.{Plan}
-use Rattle.host.specs.declared.session.Stage.{Stage}
-use Rattle.host.specs.declared.session.Stage.the-variants.{Text, Asking, Declaring, Sending, Noticing, Restarting}
-
--- The start text and its answer, each with CR LF.
-abbrev pub startText : List ℕ
-startText = textOf "$PCAS20*03\r\n"
-
-abbrev pub startAnswer : List ℕ
-startAnswer = textOf "$PCAS30,3*1D\r\n"
+use Rattle.commands.specs.Commands.{startText, rateFrame, parametersFrame, packetFrame, restartFrame}
+use Rattle.stages.specs.Stages.{numberOfRate}
+use Rattle.stages.specs.declared.plan.Plan.{Plan}
+use Rattle.stages.specs.declared.plan.Stage.{Stage}
+use Rattle.stages.specs.declared.plan.Stage.the-variants.{Text, Asking, Declaring, Sending, Noticing, Restarting}
 
 -- What is sent at a stage, first and again. While the notice is awaited it is the last packet.
 abbrev pub messageOf : Plan → List ℕ → Stage → List ℕ

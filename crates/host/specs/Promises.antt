@@ -13,26 +13,28 @@ use Rattle.commands.specs.Commands.{accepted, wrongFirst, wrongSecond, notUnder
 use Rattle.commands.specs.Commands.{rateReply, parametersReply, packetReply, restartReply, notice}
 use Rattle.commands.specs.Commands.{rateFrame, parametersFrame, packetFrame, restartFrame}
 use Rattle.refusals.specs.Refusals.{noRoom, wrongPieces, noAnswer, moduleRefused, badNotice}
-use Rattle.host.specs.Session.{numberOfRate, limitOf, stepped, arises}
-use Rattle.host.specs.Messages.{startText, startAnswer, messageOf}
-use Rattle.host.specs.Answers.{pieceSize, sizeMove}
+use Rattle.stages.specs.Stages.{numberOfRate}
+use Rattle.host.specs.Session.{limitOf, stepped, arises}
+use Rattle.commands.specs.Commands.{startText, startAnswer}
+use Rattle.host.specs.Messages.{messageOf}
+use Rattle.stages.specs.Answers.{pieceSize, sizeMove}
 use Rattle.host.specs.Step.{Left, left, Wishes, waitingOf, endedOf, openingOf}
 use Rattle.host.specs.Runs.{Given, leaves, afterOf, sentBy, sentOver, answersOf}
-use Rattle.host.specs.declared.session.Rate.{Rate}
-use Rattle.host.specs.declared.session.Rate.the-variants.{R9600}
-use Rattle.host.specs.declared.session.Start.{Start}
-use Rattle.host.specs.declared.session.Start.the-variants.{WithText, AtOnce}
-use Rattle.host.specs.declared.session.Same.the-variants.{GoOn, Stop}
-use Rattle.host.specs.declared.session.Plan.{Plan}
-use Rattle.host.specs.declared.session.Stage.{Stage}
-use Rattle.host.specs.declared.session.Stage.the-variants.{Text, Asking, Declaring, Sending, Noticing, Restarting}
+use Rattle.stages.specs.declared.plan.Rate.{Rate}
+use Rattle.stages.specs.declared.plan.Rate.the-variants.{R9600}
+use Rattle.stages.specs.declared.plan.Start.{Start}
+use Rattle.stages.specs.declared.plan.Start.the-variants.{WithText, AtOnce}
+use Rattle.stages.specs.declared.plan.Same.the-variants.{GoOn, Stop}
+use Rattle.stages.specs.declared.plan.Plan.{Plan}
+use Rattle.stages.specs.declared.plan.Stage.{Stage}
+use Rattle.stages.specs.declared.plan.Stage.the-variants.{Text, Asking, Declaring, Sending, Noticing, Restarting}
 use Rattle.host.specs.declared.session.Wait.{Wait}
 use Rattle.host.specs.declared.session.Phase.the-variants.{Waiting}
 use Rattle.host.specs.declared.session.Session.{Session}
 use Rattle.host.specs.declared.session.Event.{Event}
 use Rattle.host.specs.declared.session.Event.the-variants.{Line, Elapsed}
 use Rattle.host.specs.declared.session.Event.the-variants as event
-use Rattle.host.specs.declared.answers.Move.the-variants.{Enter, TooMany}
+use Rattle.stages.specs.declared.answers.Move.the-variants.{Enter, TooMany}
 use Rattle.host.specs.declared.session.Answer.{Answer}
 use Rattle.host.specs.declared.session.Answer.the-variants.{Nothing, Sent, Done, Refused, Failed}
 

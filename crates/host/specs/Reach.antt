@@ -18,12 +18,15 @@ use Rattle.pieces.specs.Pieces.{countOf}
 use Rattle.pieces.specs.PiecesLaws.{count-some}
 use Rattle.wire.specs.Frame.{Frame}
 use Rattle.commands.specs.Commands.{accepted, wrongFirst, rateReply, parametersReply, packetReply, notice}
-use Rattle.host.specs.Session.{numberOfRate, mostRepeats, limitOf, session, wait, firstStage, textFits, stageFits, arises}
-use Rattle.host.specs.SessionLaws.{rate-facts, facts-rate, SentOf, sent-facts, facts-sent, sending-facts, facts-sending}
-use Rattle.host.specs.SessionLaws.{stage-small, WaitOf}
-use Rattle.host.specs.Messages.{startAnswer, messageOf}
-use Rattle.host.specs.Answers.{lowerMove, pieceSize}
-use Rattle.host.specs.AnswersLaws.{ack-first}
+use Rattle.stages.specs.Stages.{numberOfRate, textFits, stageFits}
+use Rattle.host.specs.Session.{mostRepeats, limitOf, session, wait, firstStage, arises}
+use Rattle.stages.specs.StagesLaws.{rate-facts, facts-rate, SentOf, sent-facts, facts-sent, sending-facts, facts-sending}
+use Rattle.stages.specs.StagesLaws.{stage-small}
+use Rattle.host.specs.SessionLaws.{WaitOf}
+use Rattle.commands.specs.Commands.{startAnswer}
+use Rattle.host.specs.Messages.{messageOf}
+use Rattle.stages.specs.Answers.{lowerMove, pieceSize}
+use Rattle.stages.specs.AnswersLaws.{ack-first}
 use Rattle.host.specs.Step.{Left, Wishes, waitingOf, endedOf, resends, timeStep, openingOf}
 use Rattle.host.specs.Runs.{Given, leaves, afterOf}
 use Rattle.host.specs.Promises.{line, frame, GoodStep, RealEvent, Real, AllReal, Reached, ArisesReached}
@@ -31,14 +34,14 @@ use Rattle.host.specs.Arises.{first-fits, arises-wait, limit-within}
 use Rattle.host.specs.Forward.{message-short, rate-answered, event-taken, arrived, Fits, fits-wait, Leads, frame-enters}
 use Rattle.host.specs.StepLaws.{sends-fits}
 use Rattle.host.specs.Forward.{text-step, rate-step, parameters-step, packet-step, last-step, notice-step, opening-sends}
-use Rattle.host.specs.declared.session.Rate.{Rate}
-use Rattle.host.specs.declared.session.Rate.the-variants.{R9600, R19200, R38400, R57600, R115200}
-use Rattle.host.specs.declared.session.Start.{Start}
-use Rattle.host.specs.declared.session.Start.the-variants.{WithText, AtOnce}
-use Rattle.host.specs.declared.session.Same.the-variants.{GoOn}
-use Rattle.host.specs.declared.session.Plan.{Plan}
-use Rattle.host.specs.declared.session.Stage.{Stage}
-use Rattle.host.specs.declared.session.Stage.the-variants.{Text, Asking, Declaring, Sending, Noticing, Restarting}
+use Rattle.stages.specs.declared.plan.Rate.{Rate}
+use Rattle.stages.specs.declared.plan.Rate.the-variants.{R9600, R19200, R38400, R57600, R115200}
+use Rattle.stages.specs.declared.plan.Start.{Start}
+use Rattle.stages.specs.declared.plan.Start.the-variants.{WithText, AtOnce}
+use Rattle.stages.specs.declared.plan.Same.the-variants.{GoOn}
+use Rattle.stages.specs.declared.plan.Plan.{Plan}
+use Rattle.stages.specs.declared.plan.Stage.{Stage}
+use Rattle.stages.specs.declared.plan.Stage.the-variants.{Text, Asking, Declaring, Sending, Noticing, Restarting}
 use Rattle.host.specs.declared.session.Wait.{Wait}
 use Rattle.host.specs.declared.session.Phase.{Phase}
 use Rattle.host.specs.declared.session.Phase.the-variants.{Ended, Waiting}
@@ -46,7 +49,7 @@ use Rattle.host.specs.declared.session.Session.{Session}
 use Rattle.host.specs.declared.session.Event.{Event}
 use Rattle.host.specs.declared.session.Event.the-variants.{Line, Elapsed}
 use Rattle.host.specs.declared.session.Event.the-variants as event
-use Rattle.host.specs.declared.answers.Move.the-variants.{Enter}
+use Rattle.stages.specs.declared.answers.Move.the-variants.{Enter}
 
 -- What holds at 0 and goes from each number below a total to the next holds up to the total.
 up-to : (P : ℕ → Type 0) (total : ℕ) → P 0 → ((k : ℕ) → k < total → P k → P (k + 1)) → (k : ℕ) → k ≤ total → P k

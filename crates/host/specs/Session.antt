@@ -1,17 +1,16 @@
 -- The host's session: its plan, its stages, and which numbers of a session can arise.
 use Prim.Native.Nat.{ℕ, _-_}
-use mathlib.Core.Bool.{Bool, true, false, _&&_}
+use mathlib.Core.Bool.{Bool, true, _&&_}
 use lib.Dec.{ltb, leb}
 use Rattle.kinds.specs.Kinds.{fitsFile}
+use Rattle.stages.specs.Stages.{stageFits}
 use Rattle.pieces.specs.Pieces.{countOf}
-use Rattle.commands.specs.Commands.{largestPacket, largestTotal}
-use Rattle.host.specs.declared.session.Rate.{Rate}
-use Rattle.host.specs.declared.session.Rate.the-variants.{R9600, R19200, R38400, R57600, R115200}
-use Rattle.host.specs.declared.session.Start.{Start}
-use Rattle.host.specs.declared.session.Start.the-variants.{WithText, AtOnce}
-use Rattle.host.specs.declared.session.Plan.{Plan}
-use Rattle.host.specs.declared.session.Stage.{Stage}
-use Rattle.host.specs.declared.session.Stage.the-variants.{Text, Asking, Declaring, Sending, Noticing, Restarting}
+use Rattle.stages.specs.declared.plan.Rate.{Rate}
+use Rattle.stages.specs.declared.plan.Start.{Start}
+use Rattle.stages.specs.declared.plan.Start.the-variants.{WithText, AtOnce}
+use Rattle.stages.specs.declared.plan.Plan.{Plan}
+use Rattle.stages.specs.declared.plan.Stage.{Stage}
+use Rattle.stages.specs.declared.plan.Stage.the-variants.{Text, Asking, Declaring, Sending, Noticing, Restarting}
 use Rattle.host.specs.declared.session.Wait.{Wait}
 use Rattle.host.specs.declared.session.Phase.{Phase}
 use Rattle.host.specs.declared.session.Phase.the-variants.{Ended, Waiting}
@@ -21,14 +20,6 @@ use Rattle.host.specs.declared.session.Stepped.{Stepped}
 use Rattle.host.specs.declared.session.Progress.{Progress}
 use Rattle.host.specs.declared.session.LineRate.{LineRate}
 use Rattle.host.specs.declared.session.LineRate.the-variants.{AsItWas, Agreed}
-
--- The numbers of the five rates, as 0x01 carries them.
-abbrev pub numberOfRate : Rate → ℕ
-numberOfRate R9600 = 1
-numberOfRate R19200 = 2
-numberOfRate R38400 = 3
-numberOfRate R57600 = 4
-numberOfRate R115200 = 5
 
 -- One frame is resent at most 3 times.
 abbrev pub mostRepeats : ℕ
@@ -94,33 +85,6 @@ phaseRepeats Ended = 0
 phaseRepeats (Waiting w) = w .repeats
 
 -- ---- which numbers can arise
-
--- A rate that was asked for is not above the first.
-unfoldable pub rateFits : Rate → Rate → Bool
-rateFits first rate = leb (numberOfRate rate) (numberOfRate first)
-
--- The start text is awaited only where it was sent.
-abbrev pub textFits : Start → Bool
-textFits WithText = true
-textFits AtOnce = false
-
--- A piece size is 1 to 1,024, not over the wish, and two bytes carry the number of pieces.
-unfoldable pub sizeFits : ℕ → ℕ → ℕ → Bool
-sizeFits image wish size =
-    leb 1 size && (leb size largestPacket && (leb size wish && leb (countOf image size) largestTotal))
-
--- A packet number is 1 to the number of pieces.
-unfoldable pub numberFits : ℕ → ℕ → ℕ → Bool
-numberFits image size number = leb 1 number && leb number (countOf image size)
-
-abbrev pub stageFits : Plan → ℕ → Stage → Bool
-stageFits plan image Text = textFits (plan .start)
-stageFits plan image (Asking rate) = rateFits (plan .first) rate
-stageFits plan image (Declaring rate) = rateFits (plan .first) rate
-stageFits plan image (Sending rate size number) =
-    rateFits (plan .first) rate && (sizeFits image (plan .wish) size && numberFits image size number)
-stageFits plan image (Noticing rate size) = rateFits (plan .first) rate && sizeFits image (plan .wish) size
-stageFits plan image (Restarting rate size) = rateFits (plan .first) rate && sizeFits image (plan .wish) size
 
 -- A waiting session has an image that a file may carry, has waited less than the limit and resent at most 3 times.
 unfoldable pub waitFits : ℕ → Wait → Bool

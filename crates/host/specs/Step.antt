@@ -14,12 +14,12 @@ use Rattle.wire.specs.Frame.{wireOf}
 use Rattle.commands.specs.Commands.{restartFrame}
 use Rattle.host.specs.Session.{mostRepeats, limitOf, session, wait, stepped, firstStage, arises}
 use Rattle.host.specs.Messages.{messageOf}
-use Rattle.host.specs.Answers.{frameMove, lineMove}
-use Rattle.host.specs.declared.session.Rate.{Rate}
-use Rattle.host.specs.declared.session.Start.{Start}
-use Rattle.host.specs.declared.session.Same.{Same}
-use Rattle.host.specs.declared.session.Plan.{Plan}
-use Rattle.host.specs.declared.session.Stage.{Stage}
+use Rattle.stages.specs.Answers.{frameMove, lineMove}
+use Rattle.stages.specs.declared.plan.Rate.{Rate}
+use Rattle.stages.specs.declared.plan.Start.{Start}
+use Rattle.stages.specs.declared.plan.Same.{Same}
+use Rattle.stages.specs.declared.plan.Plan.{Plan}
+use Rattle.stages.specs.declared.plan.Stage.{Stage}
 use Rattle.host.specs.declared.session.Wait.{Wait}
 use Rattle.host.specs.declared.session.Phase.{Phase}
 use Rattle.host.specs.declared.session.Phase.the-variants.{Ended, Waiting}
@@ -29,8 +29,8 @@ use Rattle.host.specs.declared.session.Event.the-variants.{Frame, Line, 
 use Rattle.host.specs.declared.session.Answer.{Answer}
 use Rattle.host.specs.declared.session.Answer.the-variants.{Nothing, Sent, Done, Refused, Failed}
 use Rattle.host.specs.declared.session.Stepped.{Stepped}
-use Rattle.host.specs.declared.answers.Move.{Move}
-use Rattle.host.specs.declared.answers.Move.the-variants.{Stay, Enter, Await, Resend, Refuse, TooMany, Finish}
+use Rattle.stages.specs.declared.answers.Move.{Move}
+use Rattle.stages.specs.declared.answers.Move.the-variants.{Stay, Enter, Await, Resend, Refuse, TooMany, Finish}
 
 -- All that an opening or a step leaves.
 pub record Left : Type 0 where

@@ -13,14 +13,13 @@ use Rattle.refusals.specs.Refusals.{noRoom, wrongLength}
 use Rattle.refusals.specs.Written.{Out, refused, written, countOf, refusalOf}
 use Rattle.refusals.specs.declared.Written.{Written}
 use Rattle.refusals.specs.declared.Written.the-variants as writes
+use Rattle.stages.specs.StagesLaws.{Small}
 use Rattle.host.specs.Session.{stepped, firstStage, waitFits, arises}
 use Rattle.host.specs.Messages.{sentOf}
 use Rattle.host.specs.Step.{left, sends, phaseStep, stepOf}
-use Rattle.host.specs.declared.session.Rate.{Rate}
-use Rattle.host.specs.declared.session.Start.{Start}
-use Rattle.host.specs.declared.session.Start.the-variants.{WithText, AtOnce}
-use Rattle.host.specs.declared.session.Stage.{Stage}
-use Rattle.host.specs.declared.session.Stage.the-variants.{Text, Asking, Declaring, Sending, Noticing, Restarting}
+use Rattle.stages.specs.declared.plan.Rate.{Rate}
+use Rattle.stages.specs.declared.plan.Start.{Start}
+use Rattle.stages.specs.declared.plan.Start.the-variants.{WithText, AtOnce}
 use Rattle.host.specs.declared.session.Wait.{Wait}
 use Rattle.host.specs.declared.session.Phase.{Phase}
 use Rattle.host.specs.declared.session.Phase.the-variants.{Waiting}
@@ -28,35 +27,6 @@ use Rattle.host.specs.declared.session.Session.{Session}
 use Rattle.host.specs.declared.session.Event.{Event}
 use Rattle.host.specs.declared.session.Answer.the-variants.{Nothing, Refused}
 use Rattle.host.specs.declared.session.Stepped.{Stepped}
-use Rattle.host.specs.declared.answers.Move.{Move}
-use Rattle.host.specs.declared.answers.Move.the-variants.{Stay, Enter, Await, Resend, Refuse, TooMany, Finish}
-
--- A stage whose packets fit a frame.
-abbrev pub Small : Stage → Type 0
-Small Text = Unit
-Small (Asking rate) = Unit
-Small (Declaring rate) = Unit
-Small (Sending rate size number) = (size ≤ 1024) × (number ≤ 65535)
-Small (Noticing rate size) = size ≤ 1024
-Small (Restarting rate size) = Unit
-
--- A move that leads to such a stage.
-abbrev pub SmallMove : Move → Type 0
-SmallMove Stay = Unit
-SmallMove (Enter next) = Small next
-SmallMove (Await next) = Small next
-SmallMove Resend = Unit
-SmallMove (Refuse number passed) = Unit
-SmallMove TooMany = Unit
-SmallMove Finish = Unit
-
--- A stage is small whatever name it has.
-pub small-same : (stage told : Stage) → stage ≡ told → Small stage → Small told
-small-same stage told e h = rw (sym e) h
-
--- So is a move.
-pub small-move-same : (move told : Move) → move ≡ told → SmallMove move → SmallMove told
-small-move-same move told e h = rw (sym e) h
 
 -- A session begins at a small stage.
 pub first-small : (start : Start) (rate : Rate) → Small (firstStage start rate)

@@ -5,8 +5,8 @@ use mathlib.Core.List.{List, [], _∷_, _++_}
 use mathlib.Core.Path.{_≡_, refl, sym, ap, ap₂, _∙_}
 use native.Mathlib.Decide.{decLe, decLt, ℕ-discrete}
 use native.Mathlib.Omega.{arith}
-use borrow.Author.Tests.{lt-ltb, le-ltb, eq-eqb, eqb-true, eqb-false, le-leb, leb-true, leb-false}
-use lib.Dec.{eqb, leb}
+use borrow.Author.Tests.{lt-ltb, le-ltb, ltb-true, ltb-false, eq-eqb, eqb-true, eqb-false, le-leb, leb-true, leb-false}
+use lib.Dec.{eqb, ltb, leb}
 use lib.ListN.{length, take, getD}
 use lib.Seq.{take-at}
 use Rattle.octets.specs.Octets.{Bytes, little, spelled, numberAt, sameBytes, over}
@@ -19,14 +19,17 @@ use Rattle.pieces.specs.Pieces.{countOf}
 use Rattle.wire.specs.Frame.{Frame, wireOf}
 use Rattle.commands.specs.Commands.{accepted, wrongFirst, wrongSecond, notUnderstood, largestTotal}
 use Rattle.commands.specs.Commands.{rateReply, parametersReply, packetReply, restartReply, notice, restartFrame}
-use Rattle.host.specs.Session.{numberOfRate, limitOf, mostRepeats, stepped, stageFits, phaseArises, arises}
-use Rattle.host.specs.SessionLaws.{sending-facts, WaitOf, wait-facts}
-use Rattle.host.specs.Messages.{startAnswer, messageOf}
-use Rattle.host.specs.Answers.{byAck, lowerMove, rateMove, pieceSize, sizeMove, parametersMove, acceptedMove, sameMove, packetMove}
-use Rattle.host.specs.Answers.{noticeMove, fitting, whereFitting, frameMove, textMove, lineMove}
-use Rattle.host.specs.AnswersLaws.{accepted-last, fitting-facts, ack-accepted, ack-first, ack-second, ack-again}
-use Rattle.host.specs.AnswersLaws.{rate-asked, rate-none, size-begins, size-stops, parameters-ack}
-use Rattle.host.specs.AnswersLaws.{accepted-before, packet-this, packet-none, notice-good, notice-bad, text-same}
+use Rattle.stages.specs.Stages.{numberOfRate, stageFits}
+use Rattle.host.specs.Session.{limitOf, mostRepeats, stepped, phaseArises, arises}
+use Rattle.stages.specs.StagesLaws.{sending-facts}
+use Rattle.host.specs.SessionLaws.{WaitOf, wait-facts}
+use Rattle.commands.specs.Commands.{startAnswer}
+use Rattle.host.specs.Messages.{messageOf}
+use Rattle.stages.specs.Answers.{byAck, lowerMove, rateMove, pieceSize, sizeMove, parametersMove, acceptedMove, sameMove, packetMove}
+use Rattle.stages.specs.Answers.{noticeMove, fitting, whereFitting, frameMove, textMove, lineMove}
+use Rattle.stages.specs.AnswersLaws.{accepted-last, fitting-facts, ack-accepted, ack-first, ack-second, ack-again}
+use Rattle.stages.specs.AnswersLaws.{rate-asked, rate-none, size-begins, size-stops, parameters-ack}
+use Rattle.stages.specs.AnswersLaws.{accepted-before, packet-this, packet-none, notice-good, notice-bad, text-same}
 use Rattle.host.specs.Step.{left, waitingOf, endedOf, sends, resends, moved, timeStep, eventStep, phaseStep, stepOf}
 use Rattle.host.specs.StepLaws.{sends-fits, sends-short}
 use Rattle.host.specs.Runs.{Given, leaves}
@@ -36,12 +39,12 @@ use Rattle.host.specs.Promises.{packet-0-again, restart-again, RefusedBy
 use Rattle.host.specs.Promises.{failure, NoPieces, AllAccepted, Restarted, Awaits, Message, again, onward, restart, Turn}
 use Rattle.host.specs.Promises.{no-room, gives-up, too-many, awaits, finishes, waits, passed-over, EveryTurn, EveryReason}
 use Rattle.host.specs.Promises as promise
-use Rattle.host.specs.declared.session.Rate.{Rate}
-use Rattle.host.specs.declared.session.Rate.the-variants.{R9600, R19200, R38400, R57600, R115200}
-use Rattle.host.specs.declared.session.Same.{Same}
-use Rattle.host.specs.declared.session.Same.the-variants.{GoOn, Stop}
-use Rattle.host.specs.declared.session.Stage.{Stage}
-use Rattle.host.specs.declared.session.Stage.the-variants.{Text, Asking, Declaring, Sending, Noticing, Restarting}
+use Rattle.stages.specs.declared.plan.Rate.{Rate}
+use Rattle.stages.specs.declared.plan.Rate.the-variants.{R9600, R19200, R38400, R57600, R115200}
+use Rattle.stages.specs.declared.plan.Same.{Same}
+use Rattle.stages.specs.declared.plan.Same.the-variants.{GoOn, Stop}
+use Rattle.stages.specs.declared.plan.Stage.{Stage}
+use Rattle.stages.specs.declared.plan.Stage.the-variants.{Text, Asking, Declaring, Sending, Noticing, Restarting}
 use Rattle.host.specs.declared.session.Wait.{Wait}
 use Rattle.host.specs.declared.session.Phase.{Phase}
 use Rattle.host.specs.declared.session.Session.{Session}
@@ -50,8 +53,8 @@ use Rattle.host.specs.declared.session.Event.the-variants.{Line, Elapsed
 use Rattle.host.specs.declared.session.Event.the-variants as event
 use Rattle.host.specs.declared.session.Answer.{Answer}
 use Rattle.host.specs.declared.session.Answer.the-variants.{Nothing, Sent, Refused}
-use Rattle.host.specs.declared.answers.Move.{Move}
-use Rattle.host.specs.declared.answers.Move.the-variants.{Stay, Enter, Await, Resend, Refuse, TooMany, Finish}
+use Rattle.stages.specs.declared.answers.Move.{Move}
+use Rattle.stages.specs.declared.answers.Move.the-variants.{Stay, Enter, Await, Resend, Refuse, TooMany, Finish}
 
 -- ---- payloads of one, two and three bytes
 
@@ -177,11 +180,11 @@ module _ (w : Wait) (g : Given) where
   unfolding acceptedMove
   accepted-reason rate size number e within h =
       let total : ℕ = countOf (length (g .image)) size in
-      either-way (Reason w g) (eqb number total)
+      either-way (Reason w g) (ltb number total)
+      (λ t. continued rate size number e (ltb-true number total t) h refl)
       (λ t.
-      let last = eqb-true number total t in
+      let last : number ≡ total = omega (arith, within, ltb-false number total t) in
       (rate, size, record { stage-is = e ∙ ap (Sending rate size) last; accepts = rw last at h }, refl))
-      (λ t. continued rate size number e (omega (arith, eqb-false number total t)) h refl)
 
   -- The same version, as the plan says.
   same-reason : (way : Same) (rate : Rate) (size number : ℕ) → w .plan .same ≡ way → w .stage ≡ Sending rate size number
@@ -532,7 +535,7 @@ module _ {s : Session} {w : Wait} {g : Given} (a : Awaits s w g) where
       (size-begins rate (length (g .image)) (pieceSize most (w .plan .wish)) (record { some = some; few = few }) ∙ ap Enter (sym n))
   follows-leaves next (continued rate size number e less h n) =
       heard-accepted rate size number (Enter next) e h
-      (accepted-before (length (g .image)) rate size number (λ same. omega arith) ∙ ap Enter (sym n))
+      (accepted-before (length (g .image)) rate size number less ∙ ap Enter (sym n))
   follows-leaves next (noticed rate size e h n) =
       heard-notice rate size 0 (Enter next) e h (notice-good rate size 0 refl ∙ ap Enter (sym n))
 
@@ -622,7 +625,7 @@ every-reason s w g a = record {
   no-pieces = λ n. stops-leaves a n;
   awaited = λ rate size h.
       heard-accepted a rate size (countOf (length (g .image)) size) (Await (Noticing rate size)) (h .stage-is) (h .accepts)
-      (accepted-last (length (g .image)) rate size (countOf (length (g .image)) size) refl);
+      (accepted-last (length (g .image)) rate size (countOf (length (g .image)) size) (omega arith));
   waited = λ ms e short.
       awaits-step a
       ∙ ap (λ (event : Event). eventStep s w event (g .bytes) (g .image) (g .output)) e

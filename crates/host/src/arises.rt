@@ -1,11 +1,6 @@
 // Which numbers of a session could arise from an opening.
 ghost use mathlib.Core.Path.{_≡_};
-ghost use Rattle.host.specs.Session.{rateFits, textFits, sizeFits, numberFits, stageFits, waitFits};
-use crate::answers::rate_number;
-use crate::session::Plan;
-use crate::session::Rate;
-use crate::session::Stage;
-use crate::session::Start;
+ghost use Rattle.host.specs.Session.{waitFits};
 use crate::session::Wait;
 use crate::session::limit;
 
@@ -25,81 +20,5 @@ pub(crate) fn wait_fits(image: usize, wait: Wait) -> bool
     if 3 < wait.repeats {
         return false;
     }
-    stage_fits(plan, image, stage)
-}
-
-fn stage_fits(plan: Plan, image: usize, stage: Stage) -> bool
-    ensures { λ r. ⌜ r ≡ stageFits plan image stage ⌝ }
-{
-    let first = plan.first;
-    let start = plan.start;
-    match stage {
-        Stage::Text => text_fits(start),
-        Stage::Asking(rate) => rate_fits(first, rate),
-        Stage::Declaring(rate) => rate_fits(first, rate),
-        Stage::Sending { rate, size, number } => {
-            if !rate_fits(first, rate) {
-                return false;
-            }
-            if !size_fits(image, plan.wish, size) {
-                return false;
-            }
-            number_fits(image, size, number)
-        }
-        Stage::Noticing { rate, size } => {
-            if !rate_fits(first, rate) {
-                return false;
-            }
-            size_fits(image, plan.wish, size)
-        }
-        Stage::Restarting { rate, size } => {
-            if !rate_fits(first, rate) {
-                return false;
-            }
-            size_fits(image, plan.wish, size)
-        }
-    }
-}
-
-// The start text is awaited only where it was sent.
-fn text_fits(start: Start) -> bool
-    ensures { λ r. ⌜ r ≡ textFits start ⌝ }
-{
-    match start {
-        Start::WithText => true,
-        Start::AtOnce => false,
-    }
-}
-
-// A rate that was asked for is not above the first.
-fn rate_fits(first: Rate, rate: Rate) -> bool
-    ensures { λ r. ⌜ r ≡ rateFits first rate ⌝ }
-{
-    rate_number(rate) <= rate_number(first)
-}
-
-// A piece size is 1 to 1,024, not over the wish, and two bytes carry the number of pieces.
-fn size_fits(image: usize, wish: usize, size: usize) -> bool
-    ensures { λ r. ⌜ r ≡ sizeFits image wish size ⌝ }
-{
-    if size < 1 {
-        return false;
-    }
-    if 1024 < size {
-        return false;
-    }
-    if wish < size {
-        return false;
-    }
-    pieces::count(image, size) <= 65535
-}
-
-// A packet number is 1 to the number of pieces.
-fn number_fits(image: usize, size: usize, number: usize) -> bool
-    ensures { λ r. ⌜ r ≡ numberFits image size number ⌝ }
-{
-    if number < 1 {
-        return false;
-    }
-    number <= pieces::count(image, size)
+    stages::stage_fits(plan, image, stage)
 }

@@ -1,5 +1,4 @@
 // The host's session: it loads one block into a module, answer by answer, and says how it ended.
-mod answers;
 mod arises;
 mod messages;
 mod session;
@@ -8,12 +7,7 @@ pub use session::Answer;
 pub use session::Event;
 pub use session::LineRate;
 pub use session::Phase;
-pub use session::Plan;
 pub use session::Progress;
-pub use session::Rate;
-pub use session::Same;
 pub use session::Session;
-pub use session::Stage;
-pub use session::Start;
 pub use session::Stepped;
 pub use session::Wait;

@@ -2,12 +2,13 @@
 ghost use mathlib.Core.Path.{_≡_};
 ghost use Rattle.wire.specs.Frame.{wireOf};
 ghost use Rattle.commands.specs.Commands.{restartFrame};
-ghost use Rattle.host.specs.Messages.{startText, messageOf, sentOf};
-ghost use Rattle.host.specs.StepLaws.{Small};
-use crate::answers::rate_number;
-use crate::session::Plan;
-use crate::session::Stage;
+ghost use Rattle.commands.specs.Commands.{startText};
+ghost use Rattle.host.specs.Messages.{messageOf, sentOf};
+ghost use Rattle.stages.specs.StagesLaws.{Small};
 use refusals::Written;
+use stages::Plan;
+use stages::Stage;
+use stages::rate_number;
 
 // The message of a stage.
 pub(crate) fn send(plan: Plan, stage: Stage, image: &[u8], out: &mut [u8]) -> Written

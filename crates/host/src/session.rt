@@ -4,19 +4,7 @@ ghost use mathlib.Core.Bool.{true};
 ghost use Prim.Native.Nat.{_<_};
 ghost use lib.ListN.{length};
 ghost use Rattle.pieces.specs.Pieces.{countOf};
-ghost use Rattle.host.specs.Session.{
-  limitOf,
-  stepped,
-  firstStage,
-  progressOf,
-  stageProgress,
-  phaseProgress,
-  stageRate,
-  phaseRate,
-  phaseRepeats,
-  waitFits,
-  arises,
-};
+ghost use Rattle.host.specs.Session.{limitOf, stepped, firstStage, progressOf, stageProgress, phaseProgress, stageRate, phaseRate, phaseRepeats, waitFits, arises};
 ghost use Rattle.host.specs.Step.{
   left,
   waitingOf,
@@ -31,67 +19,20 @@ ghost use Rattle.host.specs.Step.{
   planOpening,
   openingOf,
 };
-ghost use Rattle.host.specs.StepLaws.{Small, SmallMove};
-use crate::answers::Move;
-use crate::answers::frame_move;
-use crate::answers::line_move;
+ghost use Rattle.stages.specs.StagesLaws.{Small, SmallMove};
 use crate::arises::wait_fits;
 use crate::messages::send;
 use crate::messages::send_restart;
-use kinds::Kind;
 use kinds::Known;
 use refusals::Written;
-
-// The five rates, lowest first.
-pub enum Rate {
-    R9600,
-    R19200,
-    R38400,
-    R57600,
-    R115200,
-}
-
-// Whether the start text is sent.
-pub enum Start {
-    WithText,
-    AtOnce,
-}
-
-// What to do when the module reports the same version.
-pub enum Same {
-    GoOn,
-    Stop,
-}
-
-// What a session was opened with.
-pub struct Plan {
-    pub kind: Kind,
-    pub first: Rate,
-    pub wish: usize,
-    pub start: Start,
-    pub same: Same,
-}
-
-// What the session waits for: the answer to the start text, a rate, the parameters, a packet; the notice; the answer to the restart.
-// From the parameters on the line has the rate that was agreed, from the packets on the piece size is set.
-pub enum Stage {
-    Text,
-    Asking(Rate),
-    Declaring(Rate),
-    Sending {
-        rate: Rate,
-        size: usize,
-        number: usize,
-    },
-    Noticing {
-        rate: Rate,
-        size: usize,
-    },
-    Restarting {
-        rate: Rate,
-        size: usize,
-    },
-}
+use stages::Move;
+use stages::Plan;
+use stages::Rate;
+use stages::Same;
+use stages::Stage;
+use stages::Start;
+use stages::frame_move;
+use stages::line_move;
 
 // What a session waits for. Waited is the time since the last sending or fitting answer; repeats is how often the message under way
 // was resent.

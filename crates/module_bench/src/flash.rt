@@ -1,4 +1,7 @@
 // The flash around the range of the transfer, and whether all of it holds what it should.
+use module_words::only_ff;
+use module_words::show_line;
+use module_words::verdict;
 
 // Type 1 begins here.
 const BASE: usize = 0x8000;
@@ -43,34 +46,4 @@ pub(crate) fn show_flash(count: usize, flash: &[u8]) {
     console::say(b" behind all FF: ");
     verdict(only_ff(behind));
     console::say(b"\n");
-}
-
-// An address and the bytes from there on.
-fn show_line(address: u32, bytes: &[u8]) {
-    console::say(b"flash  ");
-    console::word(address);
-    console::say(b" ");
-    console::row(bytes, 0);
-    console::say(b"\n");
-}
-
-// A test's outcome; the one that nobody wants stands out.
-fn verdict(holds: bool) {
-    if holds {
-        console::say(b"yes");
-    } else {
-        console::say(b"NO");
-    }
-}
-
-// Whether every byte is FF, as in a flash that nothing was written to.
-fn only_ff(bytes: &[u8]) -> bool {
-    let mut i = 0;
-    while i < bytes.len() {
-        if bytes[i] != 0xFF {
-            return false;
-        }
-        i += 1;
-    }
-    true
 }

@@ -1,14 +1,13 @@
 // Plays document 01's story of the module's session, and prints each event, the reply as it goes on the wire, and the flash.
 mod flash;
-mod replies;
 
 use crate::flash::show_flash;
-use crate::replies::show_answer;
-use crate::replies::show_opening;
-use crate::replies::show_session;
-use crate::replies::words_only;
 use module::Event;
 use module::Session;
+use module_words::show_answer;
+use module_words::show_opening;
+use module_words::show_session;
+use module_words::words_only;
 
 // 0x8000 + 24: type 1 begins at 0x8000.
 const FLASH: usize = 32792;

@@ -1,7 +1,7 @@
 -- `send_text`: the room is tested before the text is laid.
 use borrow.Author.Needs.{needs}
 use native.Mathlib.Omega.{arith}
-use Rattle.host.specs.Messages.{startText}
+use Rattle.commands.specs.Commands.{startText}
 use Rattle.host.specs.MessagesLaws.{sent-none, sent-laid}
 use Rattle.host.proofs.messages.send_text.Statement.{statement}
 use Rattle.host.proofs.messages.send_text.Tie as tie

@@ -6,7 +6,8 @@ use Rattle.octets.specs.Choice.{cond-yes, cond-no, passed, failed}
 use Rattle.refusals.specs.Refusals.{wrongImageLength}
 use Rattle.host.specs.Session.{stepped}
 use Rattle.host.specs.Step.{left, enters, planOpening}
-use Rattle.host.specs.StepLaws.{small-same, first-small}
+use Rattle.stages.specs.StagesLaws.{small-same}
+use Rattle.host.specs.StepLaws.{first-small}
 use Rattle.host.proofs.session.open_plan.Statement.{statement}
 use Rattle.host.proofs.session.open_plan.Tie as tie
 

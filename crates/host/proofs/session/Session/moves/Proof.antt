@@ -5,7 +5,7 @@ use Rattle.host.specs.declared.session.Answer.the-variants.{Nothing, Don
 use Rattle.refusals.specs.Refusals.{wrongPieces}
 use Rattle.host.specs.Session.{stepped}
 use Rattle.host.specs.Step.{left, moved}
-use Rattle.host.specs.StepLaws.{small-move-same}
+use Rattle.stages.specs.StagesLaws.{small-move-same}
 use Rattle.host.proofs.session.Session.moves.Statement.{statement}
 use Rattle.host.proofs.session.Session.moves.Tie as tie
 

@@ -3,10 +3,10 @@ use borrow.Author.Needs.{needs}
 use mathlib.Core.Path.{sym, ap, _∙_}
 use lib.ListN.{length}
 use Rattle.octets.specs.Octets.{partOf}
-use Rattle.host.specs.Answers.{frameMove, lineMove}
+use Rattle.stages.specs.Answers.{frameMove, lineMove}
 use Rattle.host.specs.Step.{moved, eventStep}
-use Rattle.host.specs.StepLaws.{small-move-same}
-use Rattle.host.specs.AnswersLaws.{wait-small, wait-short, wait-frame, wait-line}
+use Rattle.stages.specs.StagesLaws.{small-move-same}
+use Rattle.host.specs.SessionLaws.{wait-small, wait-short, wait-frame, wait-line}
 use Rattle.host.proofs.session.Session.takes.Statement.{statement}
 use Rattle.host.proofs.session.Session.takes.Tie as tie
 
@@ -17,7 +17,7 @@ part-requires : tie.Need-part-requires
 part-requires c κs = search needs
 
 frame-move-requires : tie.Need-frame-move-requires
-frame-move-requires c κs = wait-small _ _ (c .before .before .before .before .before .before .before .before .pre)
+frame-move-requires c κs = search needs
 
 moves-requires : tie.Need-moves-requires
 moves-requires c κs =

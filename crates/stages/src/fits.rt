@@ -1,0 +1,85 @@
+// Which numbers of a stage could arise.
+ghost use mathlib.Core.Path.{_≡_};
+ghost use Rattle.stages.specs.Stages.{rateFits, textFits, sizeFits, numberFits, stageFits};
+use crate::answers::rate_number;
+use crate::plan::Plan;
+use crate::plan::Rate;
+use crate::plan::Stage;
+use crate::plan::Start;
+
+// Whether a stage of a load of an image of this length could arise.
+pub fn stage_fits(plan: Plan, image: usize, stage: Stage) -> bool
+    ensures { λ r. ⌜ r ≡ stageFits plan image stage ⌝ }
+{
+    let first = plan.first;
+    let start = plan.start;
+    match stage {
+        Stage::Text => text_fits(start),
+        Stage::Asking(rate) => rate_fits(first, rate),
+        Stage::Declaring(rate) => rate_fits(first, rate),
+        Stage::Sending { rate, size, number } => {
+            if !rate_fits(first, rate) {
+                return false;
+            }
+            if !size_fits(image, plan.wish, size) {
+                return false;
+            }
+            number_fits(image, size, number)
+        }
+        Stage::Noticing { rate, size } => {
+            if !rate_fits(first, rate) {
+                return false;
+            }
+            size_fits(image, plan.wish, size)
+        }
+        Stage::Restarting { rate, size } => {
+            if !rate_fits(first, rate) {
+                return false;
+            }
+            size_fits(image, plan.wish, size)
+        }
+    }
+}
+
+// The start text is awaited only where it was sent.
+fn text_fits(start: Start) -> bool
+    ensures { λ r. ⌜ r ≡ textFits start ⌝ }
+{
+    match start {
+        Start::WithText => true,
+        Start::AtOnce => false,
+    }
+}
+
+// A rate that was asked for is not above the first.
+fn rate_fits(first: Rate, rate: Rate) -> bool
+    ensures { λ r. ⌜ r ≡ rateFits first rate ⌝ }
+{
+    rate_number(rate) <= rate_number(first)
+}
+
+// A piece size is 1 to 1,024, not over the wish, and two bytes carry the number of pieces.
+fn size_fits(image: usize, wish: usize, size: usize) -> bool
+    ensures { λ r. ⌜ r ≡ sizeFits image wish size ⌝ }
+{
+    if size < 1 {
+        return false;
+    }
+    if 1024 < size {
+        return false;
+    }
+    if wish < size {
+        return false;
+    }
+    pieces::count(image, size) <= 65535
+}
+
+// A packet number is 1 to the number of pieces.
+fn number_fits(image: usize, size: usize, number: usize) -> bool
+    ensures { λ r. ⌜ r ≡ numberFits image size number ⌝ }
+{
+    if number < 1 {
+        return false;
+    }
+    number <= pieces::count(image, size)
+}
