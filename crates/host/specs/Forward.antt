@@ -36,7 +36,8 @@ use Rattle.stages.specs.StagesLaws.{Small}
 use Rattle.host.specs.StepLaws.{sends-fits}
 use Rattle.host.specs.Runs.{Given, leaves, sentBy}
 use Rattle.host.specs.Promises.{Hears, HearsLine, line, frame, GoodStep}
-use Rattle.host.specs.Arises.{FitsMove, fits-frame, fits-line, wait-arises, limit-within, first-fits}
+use Rattle.stages.specs.Moves.{FitsMove, fits-frame, fits-line}
+use Rattle.host.specs.Arises.{wait-arises, limit-within, first-fits}
 use Rattle.stages.specs.declared.plan.Rate.{Rate}
 use Rattle.stages.specs.declared.plan.Start.{Start}
 use Rattle.stages.specs.declared.plan.Plan.{Plan}

@@ -7,10 +7,11 @@ use borrow.Author.Tests.{leb-true, le-leb, ltb-true, lt-ltb}
 use lib.Dec.{ltb, leb}
 use Rattle.octets.specs.Choice.{both}
 use Rattle.kinds.specs.Kinds.{fitsFile}
+use Rattle.kinds.specs.KindsLaws.{file-some}
 use Rattle.stages.specs.Stages.{stageFits}
 use Rattle.stages.specs.Answers.{frameMove, lineMove}
 use Rattle.stages.specs.StagesLaws.{Small, SmallMove, stage-small}
-use Rattle.stages.specs.AnswersLaws.{small-move, small-line}
+use Rattle.stages.specs.Moves.{fits-frame, fits-line, fits-small}
 use Rattle.host.specs.Session.{mostRepeats, limitOf, waitFits}
 use Rattle.host.specs.declared.session.Wait.{Wait}
 
@@ -68,7 +69,11 @@ wait-short image w h = wait-facts image w h .short
 pub wait-frame : (image : ℕ) (w : Wait) (command : ℕ) (payload : List ℕ) → waitFits image w ≡ true
     → SmallMove (frameMove (w .plan) image (w .stage) command payload)
 wait-frame image w command payload h =
-    small-move (w .plan) image (w .stage) command payload (wait-facts image w h .staged)
+    let f = wait-facts image w h in
+    let some : 1 ≤ image = file-some (w .plan .kind) image (f .fitting) in
+    fits-small (w .plan) image (frameMove (w .plan) image (w .stage) command payload)
+    (fits-frame (w .plan) image (w .stage) command payload some (f .staged))
 
 pub wait-line : (image : ℕ) (w : Wait) (line : List ℕ) → waitFits image w ≡ true → SmallMove (lineMove (w .plan) (w .stage) line)
-wait-line image w line h = small-line (w .plan) (w .stage) line
+wait-line image w line h =
+    fits-small (w .plan) image (lineMove (w .plan) (w .stage) line) (fits-line (w .plan) image (w .stage) line)

@@ -27,7 +27,7 @@ use Rattle.commands.specs.Commands.{startAnswer}
 use Rattle.host.specs.Messages.{messageOf}
 use Rattle.stages.specs.Answers.{byAck, lowerMove, rateMove, pieceSize, sizeMove, parametersMove, acceptedMove, sameMove, packetMove}
 use Rattle.stages.specs.Answers.{noticeMove, fitting, whereFitting, frameMove, textMove, lineMove}
-use Rattle.stages.specs.AnswersLaws.{accepted-last, fitting-facts, ack-accepted, ack-first, ack-second, ack-again}
+use Rattle.stages.specs.AnswersLaws.{ack-cases, accepted-last, fitting-facts, ack-accepted, ack-first, ack-second, ack-again}
 use Rattle.stages.specs.AnswersLaws.{rate-asked, rate-none, size-begins, size-stops, parameters-ack}
 use Rattle.stages.specs.AnswersLaws.{accepted-before, packet-this, packet-none, notice-good, notice-bad, text-same}
 use Rattle.host.specs.Step.{left, waitingOf, endedOf, sends, resends, moved, timeStep, eventStep, phaseStep, stepOf}
@@ -97,16 +97,6 @@ Reason w g Resend = Due w g
 Reason w g (Refuse number passed) = RefusedBy w g number passed
 Reason w g TooMany = NoPieces w g
 Reason w g Finish = Restarted w g
-
--- What holds where each ACK leads, given that it is that ACK, holds of where an ACK leads.
-ack-cases : (P : Move → Type 0) (ack : ℕ) {good first second : Move} → (ack ≡ accepted → P good) → (ack ≡ wrongFirst → P first)
-    → (ack ≡ wrongSecond → P second) → (ack ≡ notUnderstood → P Resend) → P Stay → P (byAck ack good first second)
-unfolding byAck
-ack-cases P ack good first second unread none =
-    either-way P (eqb ack accepted) (λ e. good (eqb-true ack accepted e)) (λ _.
-    either-way P (eqb ack wrongFirst) (λ e. first (eqb-true ack wrongFirst e)) (λ _.
-    either-way P (eqb ack wrongSecond) (λ e. second (eqb-true ack wrongSecond e)) (λ _.
-    either-way P (eqb ack notUnderstood) (λ e. unread (eqb-true ack notUnderstood e)) (λ _. none))))
 
 -- What is heard, said of an equal frame.
 hears-same : {g : Given} (f e : Frame) → f ≡ e → Hears g f → Hears g e

@@ -1,32 +1,26 @@
--- The laws of Answers: where each answer leads, and that a move leads to small packets.
+-- The laws of Answers: where each answer leads.
 use Prim.Native.Nat.{ℕ, _+_, _≤_, _<_, min}
 use mathlib.Core.Bool.{true, false, _&&_, not-eq-not}
 use mathlib.Core.List.{List}
 use mathlib.Core.Path.{_≡_, refl, _∙_}
 use native.Mathlib.Nat.{min-le-left, min-le-right}
 use native.Mathlib.Omega.{arith}
-use borrow.Author.Tests.{le-leb, leb-true, lt-ltb, le-ltb, ltb-true, eq-eqb, ne-eqb, eqb-true}
-use lib.Dec.{eqb, ltb, leb}
-use lib.ListN.{length, getD}
+use borrow.Author.Tests.{le-leb, leb-true, lt-ltb, le-ltb, eq-eqb, ne-eqb, eqb-true}
+use lib.Dec.{eqb, leb}
+use lib.ListN.{length}
 use Rattle.octets.specs.Choice.{cond-yes, cond-no, either-way, both}
-use Rattle.octets.specs.Octets.{numberAt, sameBytes}
+use Rattle.octets.specs.Octets.{sameBytes}
 use Rattle.refusals.specs.Refusals.{moduleRefused, badNotice}
 use Rattle.pieces.specs.Pieces.{countOf}
-use Rattle.commands.specs.Commands.{rateCommand, parametersCommand, packetCommand, restartCommand, noticeCommand}
 use Rattle.commands.specs.Commands.{accepted, wrongFirst, wrongSecond, notUnderstood, largestPacket, largestTotal}
-use Rattle.stages.specs.Stages.{numberOfRate, stageFits}
+use Rattle.stages.specs.Stages.{numberOfRate}
 use Rattle.commands.specs.Commands.{startAnswer}
 use Rattle.stages.specs.Answers.{byAck, lowerMove, rateMove, pieceSize, sizeMove, parametersMove, acceptedMove, sameMove, packetMove}
-use Rattle.stages.specs.Answers.{noticeMove, fitting, whereFitting, frameMove, textMove, lineMove}
-use Rattle.stages.specs.StagesLaws.{SendingOf, sending-facts}
-use Rattle.stages.specs.StagesLaws.{SmallMove}
+use Rattle.stages.specs.Answers.{noticeMove, fitting, whereFitting, textMove}
 use Rattle.stages.specs.declared.plan.Rate.{Rate}
-use Rattle.stages.specs.declared.plan.Rate.the-variants.{R9600, R19200, R38400, R57600, R115200}
-use Rattle.stages.specs.declared.plan.Same.{Same}
 use Rattle.stages.specs.declared.plan.Same.the-variants as same
 use Rattle.stages.specs.declared.plan.Plan.{Plan}
-use Rattle.stages.specs.declared.plan.Stage.{Stage}
-use Rattle.stages.specs.declared.plan.Stage.the-variants.{Text, Asking, Declaring, Sending, Noticing, Restarting}
+use Rattle.stages.specs.declared.plan.Stage.the-variants.{Asking, Declaring, Sending, Noticing, Restarting}
 use Rattle.stages.specs.declared.answers.Move.{Move}
 use Rattle.stages.specs.declared.answers.Move.the-variants.{Stay, Enter, Await, Resend, Refuse, TooMany}
 
@@ -65,14 +59,20 @@ ack-other ack good first second o =
     ∙ cond-no _ _ _ (ne-eqb ack wrongSecond (o .second))
     ∙ cond-no _ _ _ (ne-eqb ack notUnderstood (o .again))
 
--- What holds of each place that an ACK can lead to holds of where it leads.
+-- What holds where each ACK leads, given that it is that ACK, holds of where an ACK leads.
+pub ack-cases : (P : Move → Type 0) (ack : ℕ) {good first second : Move} → (ack ≡ accepted → P good) → (ack ≡ wrongFirst → P first)
+    → (ack ≡ wrongSecond → P second) → (ack ≡ notUnderstood → P Resend) → P Stay → P (byAck ack good first second)
+unfolding byAck
+ack-cases P ack good first second unread none =
+    either-way P (eqb ack accepted) (λ e. good (eqb-true ack accepted e)) (λ _.
+    either-way P (eqb ack wrongFirst) (λ e. first (eqb-true ack wrongFirst e)) (λ _.
+    either-way P (eqb ack wrongSecond) (λ e. second (eqb-true ack wrongSecond e)) (λ _.
+    either-way P (eqb ack notUnderstood) (λ e. unread (eqb-true ack notUnderstood e)) (λ _. none))))
+
+-- So what holds of each place that an ACK can lead to.
 pub ack-any : (P : Move → Type 0) (ack : ℕ) {good first second : Move} → P good → P first → P second → P Resend → P Stay
     → P (byAck ack good first second)
-unfolding byAck
-ack-any P ack good first second again none =
-    either-way P (eqb ack accepted) (λ _. good)
-    (λ _. either-way P (eqb ack wrongFirst) (λ _. first)
-    (λ _. either-way P (eqb ack wrongSecond) (λ _. second) (λ _. either-way P (eqb ack notUnderstood) (λ _. again) (λ _. none))))
+ack-any P ack good first second again none = ack-cases P ack (λ _. good) (λ _. first) (λ _. second) (λ _. again) none
 
 -- ---- 0x01
 
@@ -207,83 +207,3 @@ fitting-long expected n command size h = rw (eq-eqb command expected h)
 pub where-any : (P : Move → Type 0) (expected n command : ℕ) (payload : List ℕ) {move : Move} → P move → P Stay
     → P (whereFitting expected n command payload move)
 where-any P expected n command payload h k = either-way P (fitting expected n command (length payload)) (λ _. h) (λ _. k)
-
--- ---- each move leads to small packets
-
--- By the rules, one by one.
-small-lower : (rate : Rate) → SmallMove (lowerMove rate)
-small-lower R9600 = tt
-small-lower R19200 = tt
-small-lower R38400 = tt
-small-lower R57600 = tt
-small-lower R115200 = tt
-
-small-rate : (asked : Rate) (rate ack : ℕ) → SmallMove (rateMove asked rate ack)
-unfolding rateMove
-small-rate asked rate ack =
-    either-way SmallMove (eqb rate (numberOfRate asked)) (λ _. ack-any SmallMove ack tt (small-lower asked) tt tt tt)
-    (λ _. either-way SmallMove (eqb rate 0) (λ _. ack-any SmallMove ack tt tt tt tt tt) (λ _. tt))
-
-small-size : (rate : Rate) (image size : ℕ) → size ≤ largestPacket → SmallMove (sizeMove rate image size)
-unfolding sizeMove
-small-size rate image size h =
-    either-way SmallMove (leb 1 size && leb (countOf image size) largestTotal) (λ _. (h, omega arith)) (λ _. tt)
-
-small-parameters : (plan : Plan) (image : ℕ) (rate : Rate) (most ack : ℕ) → SmallMove (parametersMove plan image rate most ack)
-unfolding parametersMove
-small-parameters plan image rate most ack =
-    ack-any SmallMove ack (small-size rate image (pieceSize most (plan .wish)) (piece-packet most (plan .wish))) tt tt tt tt
-
-small-accepted : (plan : Plan) (image : ℕ) (rate : Rate) (size number : ℕ) → SendingOf plan image rate size number
-    → SmallMove (acceptedMove image rate size number)
-unfolding acceptedMove
-small-accepted plan image rate size number s =
-    either-way SmallMove (ltb number (countOf image size))
-    (λ e. (s .cut .small, omega (arith, ltb-true number (countOf image size) e, s .cut .carried)))
-    (λ _. s .cut .small)
-
-small-same : (way : Same) (move : Move) → SmallMove move → SmallMove (sameMove way move)
-small-same same.GoOn move h = h
-small-same same.Stop move h = tt
-
-small-packet : (plan : Plan) (image : ℕ) (rate : Rate) (size number given ack : ℕ) → SendingOf plan image rate size number
-    → SmallMove (packetMove plan image rate size number given ack)
-unfolding packetMove
-small-packet plan image rate size number given ack s =
-    let go = small-accepted plan image rate size number s in
-    either-way SmallMove (eqb given number)
-    (λ _. ack-any SmallMove ack go tt (small-same (plan .same) (acceptedMove image rate size number) go) tt tt)
-    (λ _. either-way SmallMove (eqb given 0) (λ _. ack-any SmallMove ack tt tt tt tt tt) (λ _. tt))
-
-small-notice : (rate : Rate) (size state : ℕ) → SmallMove (noticeMove rate size state)
-unfolding noticeMove
-small-notice rate size state = either-way SmallMove (eqb state 0) (λ _. tt) (λ _. tt)
-
-small-text : (first : Rate) (line : List ℕ) → SmallMove (textMove first line)
-unfolding textMove
-small-text first line = either-way SmallMove (sameBytes line startAnswer) (λ _. tt) (λ _. tt)
-
--- From a stage that fits, a frame leads to small packets, and so does a line.
-pub small-move : (plan : Plan) (image : ℕ) (stage : Stage) (command : ℕ) (payload : List ℕ) → stageFits plan image stage ≡ true
-    → SmallMove (frameMove plan image stage command payload)
-small-move plan image Text command payload h = tt
-small-move plan image (Asking rate) command payload h =
-    where-any SmallMove rateCommand 2 command payload (small-rate rate (getD payload 0 0) (getD payload 1 0)) tt
-small-move plan image (Declaring rate) command payload h =
-    where-any SmallMove parametersCommand 3 command payload (small-parameters plan image rate (numberAt 2 payload 0) (getD payload 2 0)) tt
-small-move plan image (Sending rate size number) command payload h =
-    where-any SmallMove packetCommand 3 command payload
-    (small-packet plan image rate size number (numberAt 2 payload 0) (getD payload 2 0) (sending-facts plan image rate size number h))
-    tt
-small-move plan image (Noticing rate size) command payload h =
-    where-any SmallMove noticeCommand 1 command payload (small-notice rate size (getD payload 0 0)) tt
-small-move plan image (Restarting rate size) command payload h =
-    where-any SmallMove restartCommand 1 command payload (ack-any SmallMove (getD payload 0 0) tt tt tt tt tt) tt
-
-pub small-line : (plan : Plan) (stage : Stage) (line : List ℕ) → SmallMove (lineMove plan stage line)
-small-line plan Text line = small-text (plan .first) line
-small-line plan (Asking rate) line = tt
-small-line plan (Declaring rate) line = tt
-small-line plan (Sending rate size number) line = tt
-small-line plan (Noticing rate size) line = tt
-small-line plan (Restarting rate size) line = tt

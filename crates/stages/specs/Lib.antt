@@ -3,3 +3,4 @@ pub mod Stages
 pub mod Answers
 pub mod StagesLaws
 pub mod AnswersLaws
+pub mod Moves

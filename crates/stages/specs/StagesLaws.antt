@@ -1,6 +1,6 @@
 -- The laws of Stages: each test and the facts that it stands for.
 use Prim.Native.Nat.{ℕ, _≤_}
-use mathlib.Core.Bool.{true, false, _&&_, not-eq-not}
+use mathlib.Core.Bool.{true, false, not-eq-not}
 use mathlib.Core.Path.{_≡_, sym}
 use native.Mathlib.Omega.{arith}
 use borrow.Author.Tests.{leb-true, le-leb}
