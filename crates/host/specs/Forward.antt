@@ -4,7 +4,6 @@ use mathlib.Core.Bool.{true}
 use mathlib.Core.List.{List, []}
 use mathlib.Core.Path.{_≡_, refl, ap, _∙_}
 use native.Mathlib.Omega.{arith}
-use borrow.Author.Tests.{eq-eqb}
 use lib.ListN.{length}
 use Rattle.octets.specs.Octets.{spelled, numberAt, over}
 use Rattle.octets.specs.OctetsLaws.{little-spelled, same-refl, take-over}
@@ -29,11 +28,11 @@ use Rattle.stages.specs.Answers.{byAck, lowerMove, pieceSize, sizeMove, paramet
 use Rattle.stages.specs.Answers.{fitting, frameMove, lineMove}
 use Rattle.stages.specs.AnswersLaws.{ack-accepted, rate-asked, Carried, size-begins, parameters-ack, packet-this, text-same}
 use Rattle.stages.specs.AnswersLaws.{accepted-last, accepted-before}
-use Rattle.host.specs.Step.{Left, left, Wishes, sends, waitingOf, endedOf, enters, moved, eventStep, stepOf}
+use Rattle.host.specs.Step.{Left, left, Wishes, sends, waitingOf, endedOf, enters, moved, eventStep}
 use Rattle.host.specs.Step.{planOf, planOpening, openingOf}
 use Rattle.commands.specs.CommandsLaws.{piece-most, length-packet, length-parameters}
 use Rattle.stages.specs.StagesLaws.{Small}
-use Rattle.host.specs.StepLaws.{sends-fits}
+use Rattle.host.specs.StepLaws.{step-phase, sends-fits}
 use Rattle.host.specs.Runs.{Given, leaves, sentBy}
 use Rattle.host.specs.Promises.{Hears, HearsLine, line, frame, GoodStep}
 use Rattle.stages.specs.Moves.{FitsMove, fits-frame, fits-line}
@@ -113,8 +112,9 @@ module _ (image : List ℕ) (w : Wait) (g : Given) (f : WaitOf (length image) w)
   -- It takes the event.
   pub event-taken : leaves (session (length image) (Waiting w)) g
       ≡ eventStep (session (length image) (Waiting w)) w (g .event) (g .bytes) image (g .output)
-  unfolding stepOf
-  event-taken = rw (lent, eq-eqb (length image) (length image) refl, wait-arises (length image) w f)
+  event-taken =
+      let s = session (length image) (Waiting w) in
+      rw lent (step-phase s (g .event) (g .bytes) image (g .output) refl (wait-arises (length image) w f) (Waiting w) refl)
 
   -- A frame is answered by its move, and so is a line.
   pub frame-heard : (x : Frame) → Hears g x → leaves (session (length image) (Waiting w)) g

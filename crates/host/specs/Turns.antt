@@ -5,7 +5,7 @@ use mathlib.Core.List.{List, [], _∷_, _++_}
 use mathlib.Core.Path.{_≡_, refl, sym, ap, ap₂, _∙_}
 use native.Mathlib.Decide.{decLe, decLt, ℕ-discrete}
 use native.Mathlib.Omega.{arith}
-use borrow.Author.Tests.{lt-ltb, le-ltb, ltb-true, ltb-false, eq-eqb, eqb-true, eqb-false, le-leb, leb-true, leb-false}
+use borrow.Author.Tests.{lt-ltb, le-ltb, ltb-true, ltb-false, eqb-true, eqb-false, le-leb, leb-true, leb-false}
 use lib.Dec.{eqb, ltb, leb}
 use lib.ListN.{length, take, getD}
 use lib.Seq.{take-at}
@@ -30,8 +30,8 @@ use Rattle.stages.specs.Answers.{noticeMove, fitting, whereFitting, frameMove, 
 use Rattle.stages.specs.AnswersLaws.{ack-cases, accepted-last, fitting-facts, ack-accepted, ack-first, ack-second, ack-again}
 use Rattle.stages.specs.AnswersLaws.{rate-asked, rate-none, size-begins, size-stops, parameters-ack}
 use Rattle.stages.specs.AnswersLaws.{accepted-before, packet-this, packet-none, notice-good, notice-bad, text-same}
-use Rattle.host.specs.Step.{left, waitingOf, endedOf, sends, resends, moved, timeStep, eventStep, phaseStep, stepOf}
-use Rattle.host.specs.StepLaws.{sends-fits, sends-short}
+use Rattle.host.specs.Step.{left, waitingOf, endedOf, sends, resends, moved, timeStep, eventStep}
+use Rattle.host.specs.StepLaws.{step-phase, sends-fits, sends-short}
 use Rattle.host.specs.Runs.{Given, leaves}
 use Rattle.host.specs.Promises.{Hears, HearsLine, PacketAccepted, accepts, same, Follows, started, agreed, lowered, declared}
 use Rattle.host.specs.Promises.{continued, noticed, Due, late, rate-again, rate-0-again, parameters-again, packet-again}
@@ -46,7 +46,7 @@ use Rattle.stages.specs.declared.plan.Same.the-variants.{GoOn, Stop}
 use Rattle.stages.specs.declared.plan.Stage.{Stage}
 use Rattle.stages.specs.declared.plan.Stage.the-variants.{Text, Asking, Declaring, Sending, Noticing, Restarting}
 use Rattle.host.specs.declared.session.Wait.{Wait}
-use Rattle.host.specs.declared.session.Phase.{Phase}
+use Rattle.host.specs.declared.session.Phase.the-variants.{Waiting}
 use Rattle.host.specs.declared.session.Session.{Session}
 use Rattle.host.specs.declared.session.Event.{Event}
 use Rattle.host.specs.declared.session.Event.the-variants.{Line, Elapsed}
@@ -420,11 +420,8 @@ refused-ack number ack good some few = go (ℕ-discrete ack wrongFirst)
 module _ {s : Session} {w : Wait} {g : Given} (a : Awaits s w g) where
   -- Its step is that of its event.
   awaits-step : leaves s g ≡ eventStep s w (g .event) (g .bytes) (g .image) (g .output)
-  unfolding stepOf
   awaits-step =
-      cond-yes _ _ _ (eq-eqb (length (g .image)) (s .image) (a .same-length))
-      ∙ cond-yes _ _ _ (a .sound)
-      ∙ ap (λ (p : Phase). phaseStep s p (g .event) (g .bytes) (g .image) (g .output)) (a .phase-is)
+      step-phase s (g .event) (g .bytes) (g .image) (g .output) (a .same-length) (a .sound) (Waiting w) (a .phase-is)
 
   -- Its numbers are such as can arise.
   awaits-facts : WaitOf (length (g .image)) w

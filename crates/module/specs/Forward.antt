@@ -29,7 +29,7 @@ use Rattle.module.specs.Rules.{phaseAt, firstDecision, loadingDecision, 
 use Rattle.module.specs.RulesLaws.{formed-yes, cut-yes, packet-yes, first-taken, next-taken}
 use Rattle.module.specs.Step.{left, smallestReply, performed, frameStep, timeStep, stepOf}
 use Rattle.module.specs.Runs.{Offer, given, exchange}
-use Rattle.module.specs.RunsLaws.{step-taken}
+use Rattle.module.specs.StepLaws.{step-open}
 use Rattle.module.specs.Promises.{opened, Frames}
 use Rattle.module.specs.declared.session.Transfer.{Transfer}
 use Rattle.module.specs.declared.session.Pieces.{Pieces}
@@ -260,7 +260,7 @@ pub frame-taken : (s : Session) (command : ℕ) (payload flash : List ℕ) (o : 
     → exchange s (given flash o) .left ≡ performed s (decideOf (s .phase) command payload flash) payload flash (o .reply)
 unfolding frameStep
 frame-taken s command payload flash o t size f =
-    step-taken s (o .event) (o .payload) flash (o .reply) (f .room) size t
+    step-open s (o .event) (o .payload) flash (o .reply) (f .room) size t
     ∙ rw (f .event-is, f .payload-is)
 
 -- A wait after which the sum is at most 7,000 is counted.
@@ -269,7 +269,7 @@ pub time-counted : (s : Session) (ms : ℕ) (payload flash reply : List ℕ) →
     → stepOf s (Elapsed ms) payload flash reply ≡ left (stepped (session (s .flash) (s .idle + ms) (s .phase)) Nothing) flash reply
 unfolding timeStep
 time-counted s ms payload flash reply t size room short =
-    step-taken s (Elapsed ms) payload flash reply room size t
+    step-open s (Elapsed ms) payload flash reply room size t
     ∙ rw (le-leb ms (longestIdle - s .idle) (omega (arith, short)))
 
 -- A wait after which it is over 7,000 closes, and the sum stops at 7,001.
@@ -278,7 +278,7 @@ pub time-closed : (s : Session) (ms : ℕ) (payload flash reply : List ℕ) → 
     → stepOf s (Elapsed ms) payload flash reply ≡ left (stepped (session (s .flash) 7001 Closed) Nothing) flash reply
 unfolding timeStep
 time-closed s ms payload flash reply t size room long =
-    step-taken s (Elapsed ms) payload flash reply room size t
+    step-open s (Elapsed ms) payload flash reply room size t
     ∙ rw (lt-leb ms (longestIdle - s .idle) (omega (arith, long, takes-facts s t .0 .waited)))
 
 -- With the wait counted the session still takes events.

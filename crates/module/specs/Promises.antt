@@ -4,8 +4,8 @@ use mathlib.Core.Bool.{true, false, cond}
 use mathlib.Core.List.{List, [], _∷_, _++_, List·Memᴰ}
 use mathlib.Core.Path.{_≡_}
 use lib.ListN.{length, getD, take}
-use Rattle.octets.specs.Octets.{Bytes, numberAt, spelled, laid}
-use Rattle.kinds.specs.Kinds.{kindOf, baseOf, numberOf, tokenOf, longestImage}
+use Rattle.octets.specs.Octets.{Bytes, numberAt, laid}
+use Rattle.kinds.specs.Kinds.{kindOf, baseOf, longestImage}
 use Rattle.kinds.specs.declared.Kind.{Kind}
 use Rattle.kinds.specs.declared.Known.{Known}
 use Rattle.kinds.specs.declared.Known.the-variants.{Is, Unknown}

@@ -1,10 +1,10 @@
 -- The rules of the four commands: what a frame given to an open session does to its phase, what is said, what is put where.
 use Prim.Native.Nat.{ℕ, _+_}
 use mathlib.Core.Bool.{Bool, cond, _&&_}
-use mathlib.Core.List.{List, [], _∷_, _++_}
+use mathlib.Core.List.{List, [], _∷_}
 use lib.Dec.{eqb, leb}
 use lib.ListN.{length, getD, drop}
-use Rattle.octets.specs.Octets.{numberAt, spelled, partOf, sameBytes, laid}
+use Rattle.octets.specs.Octets.{numberAt, partOf, sameBytes, laid}
 use Rattle.kinds.specs.Kinds.{kindOf, baseOf, tokenOf, fitsFlash}
 use Rattle.kinds.specs.declared.Kind.{Kind}
 use Rattle.kinds.specs.declared.Known.{Known}

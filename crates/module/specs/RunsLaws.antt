@@ -1,10 +1,8 @@
--- The laws of Runs: what one step is, what is heard in a reply, runs one behind the other.
+-- The laws of Runs: what is heard in a reply, runs one behind the other.
 use Prim.Native.Nat.{ℕ, _+_, _≤_}
-use mathlib.Core.Bool.{true}
 use mathlib.Core.List.{List, [], _∷_, _++_, map}
 use mathlib.Core.Path.{_≡_, refl, ap, _∙_}
 use native.Mathlib.Omega.{arith}
-use borrow.Author.Tests.{le-ltb, eq-eqb}
 use lib.ListN.{length, take}
 use Rattle.octets.specs.Octets.{spelled, over}
 use Rattle.octets.specs.OctetsLaws.{take-over}
@@ -13,24 +11,13 @@ use Rattle.reader.specs.Runs.{Placed}
 use Rattle.reader.specs.Seen.{Seen, outside, seenAfter, seenHanded}
 use Rattle.reader.specs.SeenLaws.{fresh-handed, handed-append}
 use Rattle.reader.specs.Feed.{handed-frame}
-use Rattle.module.specs.Session.{takes}
 use Rattle.module.specs.Rules.{framesOf}
-use Rattle.module.specs.Step.{smallestReply, wiresOf, answerOf, performed, eventStep, stepOf}
+use Rattle.module.specs.Step.{wiresOf, answerOf, performed}
 use Rattle.module.specs.Runs.{Given, Exchange, Offer, exchange, given, nextOf, afterOf, carried, carriedAfter, heardIn, sentBy, countIn}
 use Rattle.module.specs.declared.session.Session.{Session}
-use Rattle.module.specs.declared.session.Event.{Event}
 use Rattle.module.specs.declared.rules.Decision.{Decision}
 use Rattle.module.specs.declared.rules.Say.{Say}
 use Rattle.module.specs.declared.rules.Say.the-variants.{Nothing, Rate, Parameters, Packet, Last, Restart}
-
--- ---- one step
-
--- With room, over the flash of the opening, an open session takes the event.
-pub step-taken : (s : Session) (e : Event) (payload flash reply : List ℕ) → smallestReply ≤ length reply → length flash ≡ s .flash
-    → takes s ≡ true → stepOf s e payload flash reply ≡ eventStep s e payload flash reply
-unfolding stepOf
-step-taken s e payload flash reply room size t =
-    rw (le-ltb (length reply) smallestReply room, eq-eqb (length flash) (s .flash) size, t)
 
 -- ---- what is heard
 
