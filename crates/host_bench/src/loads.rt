@@ -8,7 +8,7 @@ use crate::play::packet;
 use crate::play::parameters;
 use crate::play::rate;
 use crate::play::restart;
-use host_words::show_session;
+use spoken::hosts::show_session;
 use stages::Rate;
 use stages::Same;
 use stages::Start;

@@ -1,12 +1,13 @@
 // The host's session and its scripted partner: what is heard and what is sent is printed.
 use host::Event;
 use host::Session;
-use host_words::Side;
-use host_words::show_answer;
-use host_words::show_message;
-use host_words::show_session;
-use host_words::without_bytes;
 use refusals::Written;
+use spoken::Side;
+use spoken::hosts::PLACES;
+use spoken::hosts::show_answer;
+use spoken::hosts::show_session;
+use spoken::show_message;
+use spoken::words_only;
 use stages::Rate;
 use stages::Same;
 use stages::Start;
@@ -110,20 +111,20 @@ fn show_heard(command: u8, payload: &[u8]) {
     let mut wire = [0u8; 64];
     let written = wire::write(command, payload, &mut wire);
     match written {
-        Written::Count(n) => show_message(Side::Heard, octets::part(&wire, 0, n)),
+        Written::Count(n) => show_message(Side::Heard, PLACES, octets::part(&wire, 0, n)),
         Written::Refused(number) => console::refusal(number),
     }
 }
 
 // A line of text is heard, its CR LF with it.
 pub(crate) fn hear_line(session: Session, line: &[u8]) -> Session {
-    show_message(Side::Heard, line);
+    show_message(Side::Heard, PLACES, line);
     take(session, Event::Line { count: line.len() }, line)
 }
 
 // Milliseconds pass.
 pub(crate) fn wait(session: Session, ms: u32) -> Session {
-    without_bytes(b"<");
+    words_only(b"<", PLACES, b"");
     console::number(ms as usize);
     console::say(b" ms pass\n");
     let next = take(session, Event::Elapsed(ms), b"");

@@ -1,7 +1,5 @@
 // The flash around the range of the transfer, and whether all of it holds what it should.
-use module_words::only_ff;
-use module_words::show_line;
-use module_words::verdict;
+use crate::FLASH;
 
 // Type 1 begins here.
 const BASE: usize = 0x8000;
@@ -30,20 +28,47 @@ pub(crate) fn show_flash(count: usize, flash: &[u8]) {
     show_line(0x8000, octets::part(flash, 0x8000, 16));
     show_line(0x8010, octets::part(flash, 0x8010, 8));
     let image = IMAGE;
-    let range = octets::part(flash, BASE, count);
+    let mut wanted = [0xFFu8; FLASH];
+    octets::copy(octets::part(&image, 0, count), &mut wanted, BASE);
+    judge(count, flash, &wanted);
+}
+
+// An address and the bytes from there on.
+fn show_line(address: u32, bytes: &[u8]) {
+    console::say(b"flash  ");
+    console::word(address);
+    console::say(b" ");
+    console::row(bytes, 0);
+    console::say(b"\n");
+}
+
+// Whether a flash is as it should be: in the range of the image, before it and behind it.
+fn judge(count: usize, flash: &[u8], wanted: &[u8]) {
     let before = octets::part(flash, 0, BASE);
     let behind = octets::behind(octets::behind(flash, BASE), count);
     console::say(b"flash  ");
     console::number(count);
     console::say(b" of 14 image bytes in place: ");
-    verdict(octets::same(range, octets::part(&image, 0, count)));
+    verdict(octets::same(
+        octets::part(flash, BASE, count),
+        octets::part(wanted, BASE, count),
+    ));
     console::say(b"; ");
     console::number(before.len());
     console::say(b" before them all FF: ");
-    verdict(only_ff(before));
+    verdict(octets::same(before, octets::part(wanted, 0, BASE)));
     console::say(b"; ");
     console::number(behind.len());
     console::say(b" behind all FF: ");
-    verdict(only_ff(behind));
+    verdict(octets::same(behind, octets::behind(octets::behind(wanted, BASE), count)));
     console::say(b"\n");
+}
+
+// A test's outcome; the one that nobody wants stands out.
+fn verdict(holds: bool) {
+    if holds {
+        console::say(b"yes");
+    } else {
+        console::say(b"NO");
+    }
 }

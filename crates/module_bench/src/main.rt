@@ -4,13 +4,14 @@ mod flash;
 use crate::flash::show_flash;
 use module::Event;
 use module::Session;
-use module_words::show_answer;
-use module_words::show_opening;
-use module_words::show_session;
-use module_words::words_only;
+use spoken::modules::PLACES;
+use spoken::modules::show_answer;
+use spoken::modules::show_opening;
+use spoken::modules::show_session;
+use spoken::words_only;
 
 // 0x8000 + 24: type 1 begins at 0x8000.
-const FLASH: usize = 32792;
+pub(crate) const FLASH: usize = 32792;
 
 // The four packets of a type 1 image of 14 bytes: Total, PkNo, PkSize, data.
 const PACKET_1: [u8; 10] = [0x04, 0x00, 0x01, 0x00, 0x04, 0x00, 0x11, 0x12, 0x13, 0x14];
@@ -225,7 +226,7 @@ fn give_into(
 
 // Milliseconds pass.
 fn wait(session: Session, ms: u32, flash: &mut [u8]) -> Session {
-    words_only(b">", b"");
+    words_only(b">", PLACES, b"");
     console::number(ms as usize);
     console::say(b" ms pass\n");
     let mut reply = [0u8; 64];

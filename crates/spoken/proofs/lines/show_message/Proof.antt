@@ -1,15 +1,15 @@
--- `module_words::show_reply` is safe and ends: the index stays below the length.
+-- `spoken::show_message` is safe and ends: the index stays below the length.
 use borrow.Author.Needs.{needs}
 use Prim.Native.Nat.{_-_}
 use lib.ListN.{length}
-use Rattle.module_words.proofs.replies.show_reply.Statement.{statement}
-use Rattle.module_words.proofs.replies.show_reply.Tie as tie
+use Rattle.spoken.proofs.lines.show_message.Statement.{statement}
+use Rattle.spoken.proofs.lines.show_message.Tie as tie
 
 abbrev Inv-loop : tie.InvT-loop
-Inv-loop wire reading₀ i₀ reading i = Unit {0}
+Inv-loop side places bytes reading₀ i₀ reading i = Unit {0}
 
 abbrev μ-loop : tie.MeasureT-loop
-μ-loop wire reading₀ i₀ reading i = length wire - i
+μ-loop side places bytes reading₀ i₀ reading i = length bytes - i
 
 new-requires : tie.Need-new-requires Inv-loop μ-loop
 new-requires c κs = search needs
@@ -44,8 +44,8 @@ show-rest-requires c κs = search needs
 returns : tie.Need-returns Inv-loop μ-loop
 returns c = search needs
 
-pub show-reply-spec : {M : Type 1} → statement M
-show-reply-spec =
+pub show-message-spec : {M : Type 1} → statement M
+show-message-spec =
     tie.close
     (tie.spec
     Inv-loop

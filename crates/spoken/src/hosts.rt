@@ -1,5 +1,8 @@
-// Where a session stands, in words.
-use crate::lines::without_bytes;
+// What the host answers and where its session stands, in words.
+use crate::lines::show_message;
+use crate::lines::words_only;
+use crate::words::Side;
+use host::Answer;
 use host::LineRate;
 use host::Phase;
 use host::Session;
@@ -7,9 +10,48 @@ use host::Wait;
 use stages::Rate;
 use stages::Stage;
 
+// The most bytes that a line shows; that is a frame with parameters.
+pub const PLACES: usize = 17;
+
+// What a call answers: the message to send, nothing, or how the load ends.
+pub fn show_answer(answer: Answer, out: &[u8]) {
+    match answer {
+        Answer::Nothing => words_only(b">", PLACES, b"nothing\n"),
+        Answer::Sent(n) => show_message(Side::Sent, PLACES, octets::part(out, 0, n)),
+        Answer::Done => words_only(b">", PLACES, b"nothing: the load is done\n"),
+        Answer::Refused(number) => {
+            words_only(b">", PLACES, b"");
+            console::refusal(number);
+            console::say(b"\n");
+        }
+        Answer::Failed {
+            number,
+            passed,
+            count,
+        } => {
+            show_message(Side::Sent, PLACES, octets::part(out, 0, count));
+            words_only(b">", PLACES, b"");
+            console::refusal(number);
+            passed_on(number, passed);
+            console::say(b"\n");
+        }
+    }
+}
+
+// The module's byte beside 21 is an ACK, beside 22 a State.
+fn passed_on(number: u8, passed: u8) {
+    if number == refusals::MODULE_REFUSED {
+        console::say(b", ACK");
+    } else {
+        console::say(b", State");
+    }
+    console::row(&[passed], 1);
+    console::say(b" passed on");
+}
+
 // What a session waits for, how far it is, and the rate that the line should have.
 pub fn show_session(session: Session) {
-    without_bytes(b"=");
+    words_only(b"=", PLACES, b"");
     let phase = session.phase;
     match phase {
         Phase::Ended => console::say(b"ended"),
