@@ -107,7 +107,7 @@ frame-arises : (s : Session) (command : ℕ) (payload flash : List ℕ) (d : Dec
     → Outcome (s .phase) command payload flash d → arises (session (s .flash) 0 (d .phase)) ≡ true
 frame-arises s command payload flash d t size (stays say h e) = rw e (anew-arises s (s .phase) t (takes-facts s t .1))
 frame-arises s command payload flash d t size (restarts c e) = rw e (closed-arises (s .flash) 0 (closed-at-0 (s .flash)))
-frame-arises s command payload flash d t size (begins tr k n f e) =
+frame-arises s command payload flash d t size (begins tr c k n f e) =
     rw e (anew-arises s (Begun tr) t (flash-fits (tr .kind) (tr .length) (s .flash) (rw size at f)))
 frame-arises s command payload flash d t size (advances p number c x k e) =
     rw e (anew-arises s _ t (advance-held p number payload (s .flash) (rw size at k)))

@@ -68,11 +68,11 @@ token-spelled Upgrade = omega arith
 token-spelled Parameters = omega arith
 
 -- The three numbers of the parameters for an image are read again.
-type-read : (kind : Kind) (image : List ℕ) → numberAt 2 (parametersFor kind (length image)) 0 ≡ numberOf kind
+pub type-read : (kind : Kind) (image : List ℕ) → numberAt 2 (parametersFor kind (length image)) 0 ≡ numberOf kind
 unfolding numberAt spelled
 type-read kind image = little-spelled 2 (numberOf kind) (kind-spelled kind .0)
 
-length-read : (kind : Kind) (image : List ℕ) → length image ≤ longestImage → numberAt 4 (parametersFor kind (length image)) 2 ≡ length image
+pub length-read : (kind : Kind) (image : List ℕ) → length image ≤ longestImage → numberAt 4 (parametersFor kind (length image)) 2 ≡ length image
 unfolding numberAt spelled
 length-read kind image h = little-spelled 4 (length image) (omega arith)
 
@@ -103,7 +103,7 @@ parameters-accepted phase kind image flash f =
 -- ---- packets
 
 -- The numbers of a packet for a piece.
-abbrev numbersFor : List ℕ → ℕ → ℕ → Numbers
+abbrev pub numbersFor : List ℕ → ℕ → ℕ → Numbers
 numbersFor image size k = record { total = countOf (length image) size; number = k; size = length (pieceOf image size k) }
 
 -- A transfer of an image into a flash: its length is declared, it fits, and the packet size cuts it.
@@ -130,7 +130,7 @@ piece-facts p image flash k c one most =
     record { some = rw long (w .some); small = rw long (omega (arith, w .most, c .cut .small)); long = long }
 
 -- The numbers of a packet for a piece are read again, and its data.
-numbers-read : (image : List ℕ) (size k : ℕ) → countOf (length image) size < 256 ^ 2 → k < 256 ^ 2
+pub numbers-read : (image : List ℕ) (size k : ℕ) → countOf (length image) size < 256 ^ 2 → k < 256 ^ 2
     → length (pieceOf image size k) < 256 ^ 2 → numbersIn (packetFor image size k) ≡ numbersFor image size k
 unfolding numbersIn numberAt spelled
 numbers-read image size k total number long =

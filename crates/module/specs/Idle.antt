@@ -65,7 +65,7 @@ frame-only : (phase : Phase) (command : ℕ) (payload flash : List ℕ) (d : Dec
     → (command ≡ restartCommand) × List·Memᴰ (restartReply accepted) (framesOf (d .say))
 frame-only phase command payload flash d o (stays say h e) c = absurd (false≢true (sym o ∙ (rw e at c)))
 frame-only phase command payload flash d o (restarts is e) c = (is, rw e (List·Memᴰ·head refl))
-frame-only phase command payload flash d o (begins t k n f e) c = absurd (false≢true (rw e at c))
+frame-only phase command payload flash d o (begins t is k n f e) c = absurd (false≢true (rw e at c))
 frame-only phase command payload flash d o (advances p number is x k e) c = absurd (false≢true (sym (phase-at-open p number _) ∙ (rw e at c)))
 frame-only phase command payload flash d o (repeats p number is x k same e) c = absurd (false≢true (sym o ∙ (rw e at c)))
 

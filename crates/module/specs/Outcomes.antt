@@ -77,7 +77,7 @@ pub data Accepted (phase : Phase) (p : Pieces) (number : ℕ) : Type 0 where
 pub data Outcome (phase : Phase) (command : ℕ) (payload flash : List ℕ) (d : Decision) : Type 0 where
   stays : (say : Say) → Plain say → d ≡ unmoved phase say → Outcome phase command payload flash d
   restarts : command ≡ restartCommand → d ≡ unmoved Closed (Restart accepted) → Outcome phase command payload flash d
-  begins : (t : Transfer) → kindOf (numberAt 2 payload 0) ≡ Is (t .kind) → numberAt 4 payload 2 ≡ t .length
+  begins : (t : Transfer) → command ≡ parametersCommand → kindOf (numberAt 2 payload 0) ≡ Is (t .kind) → numberAt 4 payload 2 ≡ t .length
       → FitsFlash (t .kind) (t .length) (length flash) → d ≡ unmoved (Begun t) (Parameters accepted)
       → Outcome phase command payload flash d
   advances : (p : Pieces) (number : ℕ) → command ≡ packetCommand → Expects phase p number → Belongs p number payload (length flash)
@@ -104,23 +104,25 @@ module _ (phase : Phase) (command : ℕ) (payload flash : List ℕ) where
   restart-outcome c =
       either-way Out (eqb (length payload) 0) (λ e. restarts c refl) (λ e. plain (Restart notUnderstood) (omega arith))
 
-  kind-outcome : (k : Kind) → kindOf (numberAt 2 payload 0) ≡ Is k → Out (kindDecision phase k payload (length flash))
+  kind-outcome : (k : Kind) → command ≡ parametersCommand → kindOf (numberAt 2 payload 0) ≡ Is k
+      → Out (kindDecision phase k payload (length flash))
   unfolding kindDecision
-  kind-outcome k e =
+  kind-outcome k c e =
       either-way Out (eqb (numberAt 4 payload 6) (tokenOf k))
       (λ t. either-way Out (fitsFlash k (numberAt 4 payload 2) (length flash))
-      (λ f. begins (record { kind = k; length = numberAt 4 payload 2 }) e refl (fits-flash k (numberAt 4 payload 2) (length flash) f) refl)
+      (λ f. begins (record { kind = k; length = numberAt 4 payload 2 }) c e refl (fits-flash k (numberAt 4 payload 2) (length flash) f) refl)
       (λ f. plain (Parameters wrongSecond) (omega arith)))
       (λ t. plain (Parameters notUnderstood) (omega arith))
 
-  known-outcome : (k : Known) → kindOf (numberAt 2 payload 0) ≡ k → Out (knownDecision phase k payload (length flash))
-  known-outcome (Is k) e = kind-outcome k e
-  known-outcome Unknown e = plain (Parameters wrongFirst) (omega arith)
+  known-outcome : (k : Known) → command ≡ parametersCommand → kindOf (numberAt 2 payload 0) ≡ k
+      → Out (knownDecision phase k payload (length flash))
+  known-outcome (Is k) c e = kind-outcome k c e
+  known-outcome Unknown c e = plain (Parameters wrongFirst) (omega arith)
 
-  parameters-outcome : Out (parametersDecision phase payload (length flash))
+  parameters-outcome : command ≡ parametersCommand → Out (parametersDecision phase payload (length flash))
   unfolding parametersDecision
-  parameters-outcome =
-      either-way Out (eqb (length payload) 10) (λ e. known-outcome (kindOf (numberAt 2 payload 0)) refl)
+  parameters-outcome c =
+      either-way Out (eqb (length payload) 10) (λ e. known-outcome (kindOf (numberAt 2 payload 0)) c refl)
       (λ e. plain (Parameters notUnderstood) (omega arith))
 
 -- ---- packets
@@ -256,7 +258,7 @@ unfolding decideOf
 outcome phase command payload flash bytes held =
     let Out = Outcome phase command payload flash in
     either-way Out (eqb command rateCommand) (λ c. rate-outcome phase command payload flash) (λ c.
-    either-way Out (eqb command parametersCommand) (λ c. parameters-outcome phase command payload flash) (λ c.
+    either-way Out (eqb command parametersCommand) (λ c. parameters-outcome phase command payload flash (eqb-true command parametersCommand c)) (λ c.
     either-way Out (eqb command packetCommand) (λ c. packet-outcome phase command payload flash (eqb-true command packetCommand c) bytes held) (λ c.
     either-way Out (eqb command restartCommand) (λ c. restart-outcome phase command payload flash (eqb-true command restartCommand c)) (λ c.
     plain phase command payload flash Nothing tt))))

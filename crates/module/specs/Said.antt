@@ -64,13 +64,14 @@ number-said number ack h =
 
 -- Frames that accept nothing.
 pub record Quiet (fs : List wire.Frame) : Type 0 where
-  pub no-parameters : List·Memᴰ (parametersReply largestPacket accepted) fs → ⊥
+  pub no-parameters : (most : ℕ) → List·Memᴰ (parametersReply most accepted) fs → ⊥
   pub no-packet : (k : ℕ) → List·Memᴰ (packetReply k accepted) fs → ⊥
   pub no-notice : List·Memᴰ (notice 0) fs → ⊥
 
 -- Frames that accept parameters and no packet.
 pub record Declaring (fs : List wire.Frame) : Type 0 where
   pub accepts : List·Memᴰ (parametersReply largestPacket accepted) fs
+  pub only : (most : ℕ) → most ≤ largestTotal → List·Memᴰ (parametersReply most accepted) fs → most ≡ largestPacket
   pub no-packet : (k : ℕ) → List·Memᴰ (packetReply k accepted) fs → ⊥
   pub no-notice : List·Memᴰ (notice 0) fs → ⊥
 
@@ -78,11 +79,11 @@ pub record Declaring (fs : List wire.Frame) : Type 0 where
 pub record Acknowledging (number : ℕ) (fs : List wire.Frame) : Type 0 where
   pub says : List·Memᴰ (packetReply number accepted) fs
   pub only : (k : ℕ) → k ≤ largestTotal → List·Memᴰ (packetReply k accepted) fs → k ≡ number
-  pub no-parameters : List·Memᴰ (parametersReply largestPacket accepted) fs → ⊥
+  pub no-parameters : (most : ℕ) → List·Memᴰ (parametersReply most accepted) fs → ⊥
 
 -- No frame accepts nothing.
 pub nothing-quiet : Quiet []
-nothing-quiet = record { no-parameters = List·Memᴰ·not-nil; no-packet = λ k. List·Memᴰ·not-nil; no-notice = List·Memᴰ·not-nil }
+nothing-quiet = record { no-parameters = λ most. List·Memᴰ·not-nil; no-packet = λ k. List·Memᴰ·not-nil; no-notice = List·Memᴰ·not-nil }
 
 -- Equal frames have one command.
 same-command : (f g : wire.Frame) → f ≡ g → f .command ≡ g .command
@@ -92,9 +93,9 @@ same-command f g e = ap (λ (x : wire.Frame). x .command) e
 alone-quiet : (f : wire.Frame) → (f .command ≡ parametersCommand → 1 ≤ ackIn f) → (f .command ≡ packetCommand → 1 ≤ ackIn f)
     → (f .command ≡ noticeCommand → ⊥) → Quiet (f ∷ [])
 alone-quiet f parameters packet other = record {
-  no-parameters = λ m.
-      let e : parametersReply largestPacket accepted ≡ f = List·Memᴰ·eq-of-singleton m in
-      omega (arith, parameters (sym (same-command _ f e)), sym (ack-said 1024 0) ∙ ap ackIn e);
+  no-parameters = λ most m.
+      let e : parametersReply most accepted ≡ f = List·Memᴰ·eq-of-singleton m in
+      omega (arith, parameters (sym (same-command _ f e)), sym (ack-said most 0) ∙ ap ackIn e);
   no-packet = λ k m.
       let e : packetReply k accepted ≡ f = List·Memᴰ·eq-of-singleton m in
       omega (arith, packet (sym (same-command _ f e)), sym (ack-said k 0) ∙ ap ackIn e);
@@ -115,6 +116,8 @@ plain-quiet (Restart ack) h = alone-quiet _ (λ e. omega (arith, e)) (λ e. omeg
 begun-declaring : Declaring (framesOf (Parameters accepted))
 begun-declaring = record {
   accepts = List·Memᴰ·head refl;
+  only = λ most short m.
+      sym (number-said most accepted short) ∙ ap numberIn (List·Memᴰ·eq-of-singleton m) ∙ number-said largestPacket accepted (omega arith);
   no-packet = λ k m. omega (arith, same-command (packetReply k accepted) (parametersReply largestPacket accepted) (List·Memᴰ·eq-of-singleton m));
   no-notice = λ m. omega (arith, same-command (notice 0) (parametersReply largestPacket accepted) (List·Memᴰ·eq-of-singleton m));
 }
@@ -130,10 +133,10 @@ acknowledging number rest most notices = record {
       sym (number-said k accepted short) ∙ ap numberIn e ∙ number-said number accepted most)
       (λ (n : List·Memᴰ (packetReply k accepted) rest). omega (arith, notices _ n))
       (List·Memᴰ·cases-cons m);
-  no-parameters = λ m.
+  no-parameters = λ most m.
       ⊎-elim
-      (λ (e : parametersReply largestPacket accepted ≡ packetReply number accepted). omega (arith, same-command _ _ e))
-      (λ (n : List·Memᴰ (parametersReply largestPacket accepted) rest). omega (arith, notices _ n))
+      (λ (e : parametersReply most accepted ≡ packetReply number accepted). omega (arith, same-command _ _ e))
+      (λ (n : List·Memᴰ (parametersReply most accepted) rest). omega (arith, notices _ n))
       (List·Memᴰ·cases-cons m);
 }
 
@@ -180,6 +183,8 @@ heardOf x = heardIn (sentBy (x .left))
 -- An exchange accepts parameters that declare a transfer, which fits the lent flash, and writes nothing.
 pub record Declares (x : Exchange) (t : Transfer) : Type 0 where
   pub said : Declaring (heardOf x)
+  pub count : ℕ
+  pub event-is : x .given .event ≡ Frame parametersCommand count
   pub kind-is : kindOf (numberAt 2 (payloadOf (x .given)) 0) ≡ Is (t .kind)
   pub length-is : lengthIn x ≡ t .length
   pub fitting : FitsFlash (t .kind) (t .length) (length (x .given .flash))
@@ -259,9 +264,17 @@ module _ (s : Session) (g : Given) (command count : ℕ) (d : Decision) (t : tak
   frame-turn (restarts c e) =
       quiet (rw (heard-is _ e) (alone-quiet _ (λ i. omega (arith, i)) (λ i. omega (arith, i)) (λ i. omega (arith, i))))
       (flash-is _ e) (inr (phase-is _ e))
-  frame-turn (begins transfer k n f e) =
+  frame-turn (begins transfer c k n f e) =
       declares transfer
-      (record { said = rw (heard-is _ e) begun-declaring; kind-is = k; length-is = n; fitting = f; same = flash-is _ e })
+      (record {
+        said = rw (heard-is _ e) begun-declaring;
+        count = count;
+        event-is = ev ∙ ap (λ (n : ℕ). Frame n count) c;
+        kind-is = k;
+        length-is = n;
+        fitting = f;
+        same = flash-is _ e;
+      })
       (phase-is _ e)
   frame-turn (advances p number c x k e) =
       writes p number (acknowledges p number _ _ c k (advance-accepted p number (payloadOf g) (length (g .flash)) k) e) x (flash-is _ e)

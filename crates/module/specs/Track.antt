@@ -212,7 +212,7 @@ track-more history t number pieces r x none reached longer l = record {
 track-quiet : (history : List Exchange) (t : Transfer) (number : ℕ) (pieces : List (List ℕ)) (x : Exchange)
     → Track history t number pieces → Quiet (heardOf x) → x .left .flash ≡ x .given .flash → Track (history ++ (x ∷ [])) t number pieces
 track-quiet history t number pieces x r q same =
-    track-more history t number pieces r x (q .no-parameters) number pieces
+    track-more history t number pieces r x (q .no-parameters largestPacket) number pieces
     (loaded-same _ _ (r .since) number pieces (r .loaded) x same (λ k short says. absurd (q .no-packet k says)))
 
 -- Accepted parameters begin anew.
@@ -327,7 +327,7 @@ module _ (history : List Exchange) (s : Session) (g : Given) (p : Pieces) where
         pieces = pieces ++ (carried ∷ []);
         one = omega arith;
         track =
-            track-more history (p .transfer) number pieces r x (a .said .no-parameters) (number + 1) (pieces ++ (carried ∷ []))
+            track-more history (p .transfer) number pieces r x (a .said .no-parameters largestPacket) (number + 1) (pieces ++ (carried ∷ []))
             (loaded-next _ _ (r .since) number pieces (r .loaded) x (a .said) (a .not-refused) room
             (put ∙ ap (λ (n : ℕ). laid (g .flash) (base + n) carried) (sym before)));
         ending = record { earlier = pieces; final = carried; split = refl; before = before; size = k .size-is };
@@ -341,7 +341,7 @@ module _ (history : List Exchange) (s : Session) (g : Given) (p : Pieces) where
     pieces = h .pieces;
     one = h .one;
     track =
-        track-more history (p .transfer) number (h .pieces) (h .track) (exchange s g) (a .said .no-parameters) number (h .pieces)
+        track-more history (p .transfer) number (h .pieces) (h .track) (exchange s g) (a .said .no-parameters largestPacket) number (h .pieces)
         (loaded-same _ _ (h .track .since) number (h .pieces) (h .track .loaded) (exchange s g) put
         (λ k short says. let is = a .said .only k short says in (is, a .not-refused, λ lent. rw is (own lent))));
     ending = h .ending;
