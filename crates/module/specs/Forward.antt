@@ -103,7 +103,7 @@ parameters-accepted phase kind image flash f =
 -- ---- packets
 
 -- The numbers of a packet for a piece.
-abbrev pub numbersFor : List ℕ → ℕ → ℕ → Numbers
+abbrev numbersFor : List ℕ → ℕ → ℕ → Numbers
 numbersFor image size k = record { total = countOf (length image) size; number = k; size = length (pieceOf image size k) }
 
 -- A transfer of an image into a flash: its length is declared, it fits, and the packet size cuts it.
@@ -130,15 +130,25 @@ piece-facts p image flash k c one most =
     record { some = rw long (w .some); small = rw long (omega (arith, w .most, c .cut .small)); long = long }
 
 -- The numbers of a packet for a piece are read again, and its data.
-pub numbers-read : (image : List ℕ) (size k : ℕ) → countOf (length image) size < 256 ^ 2 → k < 256 ^ 2
+pub total-read : (image : List ℕ) (size k : ℕ) → countOf (length image) size < 256 ^ 2
+    → numberAt 2 (packetFor image size k) 0 ≡ countOf (length image) size
+unfolding numberAt spelled
+total-read image size k h = little-spelled 2 (countOf (length image) size) h
+
+pub number-read : (image : List ℕ) (size k : ℕ) → k < 256 ^ 2 → numberAt 2 (packetFor image size k) 2 ≡ k
+unfolding numberAt spelled
+number-read image size k h = little-spelled 2 k h
+
+size-read : (image : List ℕ) (size k : ℕ) → length (pieceOf image size k) < 256 ^ 2
+    → numberAt 2 (packetFor image size k) 4 ≡ length (pieceOf image size k)
+unfolding numberAt spelled
+size-read image size k h = little-spelled 2 (length (pieceOf image size k)) h
+
+numbers-read : (image : List ℕ) (size k : ℕ) → countOf (length image) size < 256 ^ 2 → k < 256 ^ 2
     → length (pieceOf image size k) < 256 ^ 2 → numbersIn (packetFor image size k) ≡ numbersFor image size k
-unfolding numbersIn numberAt spelled
+unfolding numbersIn
 numbers-read image size k total number long =
-    rw (
-      little-spelled 2 (countOf (length image) size) total,
-      little-spelled 2 k number,
-      little-spelled 2 (length (pieceOf image size k)) long,
-    )
+    rw (total-read image size k total, number-read image size k number, size-read image size k long)
 
 pub data-read : (image : List ℕ) (size k : ℕ) → dataIn (packetFor image size k) ≡ pieceOf image size k
 unfolding spelled
