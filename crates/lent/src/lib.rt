@@ -25,7 +25,7 @@ pub fn step(
 }
 
 // The same by value, through a session that is lent for the call.
-pub fn taken(
+pub fn lend(
     session: Session,
     event: Event,
     payload: &[u8],

@@ -1,4 +1,4 @@
--- `lent::taken` is right because it hands back the session that the lent step left in its local, beside that step's answer: so what the lent step leaves of the session passed, this function leaves.
+-- `lent::lend` is right because it hands back the session that the lent step left in its local, beside that step's answer: so what the lent step leaves of the session passed, this function leaves.
 -- A walk of its MIR, by hand: the local is lent for a lifetime that is made for the call, flash and reply go to the callee for good, the lifetime is ended, and the local comes back at the session that the callee left there.
 -- All that the proof knows of the callee is that it meets its contract.
 use mathlib.Core.Path.{_≡_, refl, ap}
@@ -60,13 +60,13 @@ use Rattle.lent.proofs.step as step
 use Rattle.lent.proofs.step.Symbol as step-def
 use Rattle.lent.proofs.step.Symbol.{name as #lent·step}
 use Rattle.lent.proofs.step.Met as step-thm
-use Rattle.lent.proofs.taken.Key.{name as #lent·taken}
-use Rattle.lent.proofs.taken as taken
-use Rattle.lent.proofs.taken.Statement as stated
-use Rattle.lent.proofs.taken.Code as code
+use Rattle.lent.proofs.lend.Key.{name as #lent·lend}
+use Rattle.lent.proofs.lend as lend
+use Rattle.lent.proofs.lend.Statement as stated
+use Rattle.lent.proofs.lend.Code as code
 
 -- flash and reply are given up for good; nothing is had of the session, the event and the payload
-abbrev stayed : Stays (taken.ended .signature .params) (taken.ended .kept)
+abbrev stayed : Stays (lend.ended .signature .params) (lend.ended .kept)
 stayed = (
   stay-dropped (plain (λ _. T.the-row)) yes,
   (stay-dropped (plain (λ _. E.the-row)) yes, (stay-dropped (shrSliceOf (0 ∷ []) tt (plain (λ _. u8))) yes, (gave-slice (1 ∷ []) tt (plain (λ _. u8)), (gave-slice (2 ∷ []) tt (plain (λ _. u8)), tt)))),
@@ -100,7 +100,7 @@ module _ {M : Type 1} (𝓤 : URA M) (H : Heap 𝓤) (A : Atoms 𝓤) (W : Given
   vals = (mach s ∷ [], (ev ∷ [], (sl p ∷ [], (sl f ∷ [], (sl y ∷ [], tt)))))
 
   abbrev Post : Val → SProp 𝓤
-  Post = walkOf 𝓤 H A taken.ended stayed (taken.clauses 𝓤 H A at-mem run) .post (((κ₀, (κ₁, (κ₂, tt))), (q₀, (q₁, (q₂, tt))), tt, a, vals), tt)
+  Post = walkOf 𝓤 H A lend.ended stayed (lend.clauses 𝓤 H A at-mem run) .post (((κ₀, (κ₁, (κ₂, tt))), (q₀, (q₁, (q₂, tt))), tt, a, vals), tt)
 
   -- what the callee's triple binds outside, where the local stands at b and is lent for the lifetime ν under the name δ
   abbrev Passed : Type 0
@@ -136,7 +136,7 @@ module _ {M : Type 1} (𝓤 : URA M) (H : Heap 𝓤) (A : Atoms 𝓤) (W : Given
       → ent 𝓤 (⋆ 𝓤 H A ((‵ (flft κ₀ q₀) ⊛ ‵ (flft κ₁ q₁) ⊛ ‵ (flft κ₂ q₂) ⊛ ‵ ftrue) ∷ ‵ (finally u8 (y .name) zy) ∷ ‵ (finally u8 (f .name) zf) ∷ [])) (Post (LL.val S.the-type S′.the-laws (stepped z n)))
   exits z n zf zy is said lf ly =
       qed W ((‵ (flft κ₀ q₀) ⊛ ‵ (flft κ₁ q₁) ⊛ ‵ (flft κ₂ q₂) ⊛ ‵ ftrue) ∷ ‵ (finally u8 (y .name) zy) ∷ ‵ (finally u8 (f .name) zf) ∷ []) ∵
-      suffices ! _ (ends-at 𝓤 H A taken.ended stayed (taken.clauses 𝓤 H A at-mem run) W (((κ₀, (κ₁, (κ₂, tt))), (q₀, (q₁, (q₂, tt))), tt, a, vals), tt) (LL.val S.the-type S′.the-laws (stepped z n)) (stepped z n)
+      suffices ! _ (ends-at 𝓤 H A lend.ended stayed (lend.clauses 𝓤 H A at-mem run) W (((κ₀, (κ₁, (κ₂, tt))), (q₀, (q₁, (q₂, tt))), tt, a, vals), tt) (LL.val S.the-type S′.the-laws (stepped z n)) (stepped z n)
       (tt, (tt, (tt, (zf, (zy, tt))))) (tt, (tt, (tt, (lf, (ly, tt)))))) $ says ! said $
       -- [the tokens; the last reply; the last flash]
       frame ! $ nothing ! $ move ! (1 ∷ 0 ∷ []) $ fjoin ! $ move ! (1 ∷ 0 ∷ []) $ fjoin ! $ nothing ! $ fjoin ! $ nothing ! $ fjoin ! $ nothing ! $ fjoin ! $
@@ -144,7 +144,7 @@ module _ {M : Type 1} (𝓤 : URA M) (H : Heap 𝓤) (A : Atoms 𝓤) (W : Given
 
   module _ (C : Calls 𝓤 H) (Λ : Loops 𝓤 H) (fm : FmC 𝓤 H (W .laws) C) (known : Triple 𝓤 (C #lent·step) (Lent 𝓤 H A at-mem run)) where
     walk : Is T.the-row s (mach s ∷ []) → Is E.the-row e (ev ∷ []) → Is (ShrSlice (named 0) κ₀ u8) p (sl p ∷ []) → Is (MutSlice (named 1) κ₁ u8) f (sl f ∷ []) → Is (MutSlice (named 2) κ₂ u8) y (sl y ∷ [])
-        → ent 𝓤 (onEntry 𝓤 H A taken.signature (κ₀, (κ₁, (κ₂, tt))) (q₀, (q₁, (q₂, tt))) a vals) (WpFn 𝓤 H C Λ code.function (mach s ∷ ev ∷ sl p ∷ sl f ∷ sl y ∷ []) Post)
+        → ent 𝓤 (onEntry 𝓤 H A lend.signature (κ₀, (κ₁, (κ₂, tt))) (q₀, (q₁, (q₂, tt))) a vals) (WpFn 𝓤 H C Λ code.function (mach s ∷ ev ∷ sl p ∷ sl f ∷ sl y ∷ []) Post)
     walk is-s is-e is-p is-f is-y =
         qed W ((‵ (flft κ₀ q₀) ⊛ ‵ (flft κ₁ q₁) ⊛ ‵ (flft κ₂ q₂) ⊛ ‵ ftrue) ∷ ‵ (owns (T.the-row ∷ E.the-row ∷ ShrSlice (named 0) κ₀ u8 ∷ MutSlice (named 1) κ₁ u8 ∷ MutSlice (named 2) κ₂ u8 ∷ []) a vals) ∷ []) ∵
         enter ! C Λ code.function (mach s ∷ ev ∷ sl p ∷ sl f ∷ sl y ∷ []) _ $
@@ -194,30 +194,30 @@ module _ {M : Type 1} (𝓤 : URA M) (H : Heap 𝓤) (A : Atoms 𝓤) (W : Given
         keep ! (0 ∷ 1 ∷ 2 ∷ []) $ by ! (exits (zs .0) n (zs .1 .1 .1 .0) (zs .1 .1 .1 .1 .0) (made (zs .0) n is-z is′) said lf ly))))))))))))))))))))))))))))
 
 module _ {M : Type 1} (𝓤 : URA M) (H : Heap 𝓤) (A : Atoms 𝓤) (W : Given 𝓤 H A) (at-mem : Memory → SProp 𝓤) (run : Routine → Fun 𝓤) where
-  taken-walks : (C : Calls 𝓤 H) (Λ : Loops 𝓤 H) → FmC 𝓤 H (W .laws) C → Triple 𝓤 (C #lent·step) (Lent 𝓤 H A at-mem run) → Walks 𝓤 H A taken.ended stayed (WpFn 𝓤 H C Λ code.function) (taken.clauses 𝓤 H A at-mem run)
-  taken-walks C Λ fm known = walked 𝓤 H A taken.ended stayed (taken.clauses 𝓤 H A at-mem run) (WpFn 𝓤 H C Λ code.function)
+  lend-walks : (C : Calls 𝓤 H) (Λ : Loops 𝓤 H) → FmC 𝓤 H (W .laws) C → Triple 𝓤 (C #lent·step) (Lent 𝓤 H A at-mem run) → Walks 𝓤 H A lend.ended stayed (WpFn 𝓤 H C Λ code.function) (lend.clauses 𝓤 H A at-mem run)
+  lend-walks C Λ fm known = walked 𝓤 H A lend.ended stayed (lend.clauses 𝓤 H A at-mem run) (WpFn 𝓤 H C Λ code.function)
       (λ κs. (LL.vals T.the-type T′.the-laws, (EL.vals E.the-type E′.the-laws, (slice-vals, (slice-vals, (slice-vals, tt))))))
       (λ κs. (LL.tells T.the-type T′.the-laws, (EL.tells E.the-type E′.the-laws, (shr-slice-tells (named 0) (κs .0) u8, (mut-slice-tells (named 1) (κs .1 .0) u8, (mut-slice-tells (named 2) (κs .1 .1 .0) u8, tt))))))
       (λ κs qs bounds a g are. via 𝓤 _ (fst∗ 𝓤 _ (emp 𝓤))
       (walk 𝓤 H A W at-mem run (κs .0) (κs .1 .0) (κs .1 .1 .0) (qs .0) (qs .1 .0) (qs .1 .1 .0) (a .0) (a .1 .0) (a .1 .1 .0) (a .1 .1 .1 .0) (a .1 .1 .1 .1 .0) C Λ fm known
       (are .0) (are .1 .0) (are .1 .1 .0) (are .1 .1 .1 .0) (are .1 .1 .1 .1 .0)))
 
-  goes : AllGo 𝓤 H A W 3 (taken.signature .params) (taken.ended .kept) stayed
+  goes : AllGo 𝓤 H A W 3 (lend.signature .params) (lend.ended .kept) stayed
   goes = (
     goes-dropped 𝓤 H A W 3 (plain (λ _. T.the-row)) yes (λ κs z u. refl),
     (goes-dropped 𝓤 H A W 3 (plain (λ _. E.the-row)) yes (λ κs z u. refl), (goes-dropped 𝓤 H A W 3 (shrSliceOf (0 ∷ []) tt (plain (λ _. u8))) yes (λ κs z u. refl), (goes-gave-slice 𝓤 H A W 3 1 tt (plain (λ _. u8)), (goes-gave-slice 𝓤 H A W 3 2 tt (plain (λ _. u8)), tt)))),
   )
 
-taken-meets : {M : Type 1} (𝓤 : URA M) (H : Heap 𝓤) (A : Atoms 𝓤) → Given 𝓤 H A → (at-mem : Memory → SProp 𝓤) (run : Routine → Fun 𝓤) (𝓣 : Tables 𝓤 H) → Triple 𝓤 (𝓣 .C #lent·step) (Lent 𝓤 H A at-mem run)
-    → Meets 𝓤 H A taken.signature (WpFn 𝓤 H (𝓣 .C) (𝓣 .Λ) code.function) (taken.spec 𝓤 H A at-mem run)
-taken-meets 𝓤 H A W at-mem run 𝓣 known =
-    walk-meets 𝓤 H A taken.ended stayed W (goes 𝓤 H A W at-mem run) (taken.clauses 𝓤 H A at-mem run)
-    (WpFn 𝓤 H (𝓣 .C) (𝓣 .Λ) code.function) (WpFn-mono 𝓤 H (W .laws) 𝓣 code.function) (taken-walks 𝓤 H A W at-mem run (𝓣 .C) (𝓣 .Λ) (fmOf 𝓤 H (W .laws) 𝓣) known)
+lend-meets : {M : Type 1} (𝓤 : URA M) (H : Heap 𝓤) (A : Atoms 𝓤) → Given 𝓤 H A → (at-mem : Memory → SProp 𝓤) (run : Routine → Fun 𝓤) (𝓣 : Tables 𝓤 H) → Triple 𝓤 (𝓣 .C #lent·step) (Lent 𝓤 H A at-mem run)
+    → Meets 𝓤 H A lend.signature (WpFn 𝓤 H (𝓣 .C) (𝓣 .Λ) code.function) (lend.spec 𝓤 H A at-mem run)
+lend-meets 𝓤 H A W at-mem run 𝓣 known =
+    walk-meets 𝓤 H A lend.ended stayed W (goes 𝓤 H A W at-mem run) (lend.clauses 𝓤 H A at-mem run)
+    (WpFn 𝓤 H (𝓣 .C) (𝓣 .Λ) code.function) (WpFn-mono 𝓤 H (W .laws) 𝓣 code.function) (lend-walks 𝓤 H A W at-mem run (𝓣 .C) (𝓣 .Λ) (fmOf 𝓤 H (W .laws) 𝓣) known)
 
-pub taken-spec : {M : Type 1} → stated.statement M
+pub lend-spec : {M : Type 1} → stated.statement M
 unfolding code.routine tablesOf
-taken-spec 𝓤 H 𝓜 𝓖 𝓡 =
-    entered 𝓤 H (tripleOf 𝓤 H (𝓖 .A) taken.signature (taken.spec 𝓤 H (𝓖 .A) (𝓜 .mem) (𝓡 .run)))
-    (tables 𝓤 H 𝓜 𝓡 code.env .C) (tables 𝓤 H 𝓜 𝓡 code.env .Λ) #lent·taken code.function (code.unfolded 𝓤 H 𝓜 𝓡)
-    (taken-meets 𝓤 H (𝓖 .A) (givenOf 𝓤 H 𝓜 𝓖) (𝓜 .mem) (𝓡 .run) (tablesOf 𝓤 H 𝓜 (tables 𝓤 H 𝓜 𝓡 code.env))
+lend-spec 𝓤 H 𝓜 𝓖 𝓡 =
+    entered 𝓤 H (tripleOf 𝓤 H (𝓖 .A) lend.signature (lend.spec 𝓤 H (𝓖 .A) (𝓜 .mem) (𝓡 .run)))
+    (tables 𝓤 H 𝓜 𝓡 code.env .C) (tables 𝓤 H 𝓜 𝓡 code.env .Λ) #lent·lend code.function (code.unfolded 𝓤 H 𝓜 𝓡)
+    (lend-meets 𝓤 H (𝓖 .A) (givenOf 𝓤 H 𝓜 𝓖) (𝓜 .mem) (𝓡 .run) (tablesOf 𝓤 H 𝓜 (tables 𝓤 H 𝓜 𝓡 code.env))
     (cited 𝓤 H (Lent 𝓤 H (𝓖 .A) (𝓜 .mem) (𝓡 .run)) 𝓜 𝓡 code.env #lent·step step-def.routine code.calls-lent·step (step-thm.met 𝓤 H 𝓜 𝓖 𝓡)))
