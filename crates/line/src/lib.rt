@@ -1,10 +1,1 @@
-// Both ends on a line: a board and a host's end, each fed bytes, and what is true of the two together.
-mod board;
-mod host_end;
-mod text;
-
-pub use board::Board;
-pub use board::BoardStep;
-pub use host_end::HostEnd;
-pub use host_end::HostStep;
-pub use text::follow;
+// Both ends joined by a line: no function of its own, only what is true of the two together (specs/).
