@@ -1,12 +1,11 @@
 -- A step of the module keeps how all stands together.
-use Prim.Native.Nat.{ℕ, _+_, _*_, _-_, _^_, _≤_, _<_}
-use mathlib.Core.Bool.{Bool, true, false}
-use mathlib.Core.List.{List, [], _∷_, _++_, List·Memᴰ, List·Memᴰ·append-cases, Memᴰ·append-left}
-use mathlib.Core.Logic.{_⊎_, inl, inr, ⊎-elim}
+use Prim.Native.Nat.{ℕ, _+_, _*_, _-_, _≤_, _<_}
+use mathlib.Core.Bool.{Bool, true}
+use mathlib.Core.List.{List, _++_, List·Memᴰ, List·Memᴰ·append-cases, Memᴰ·append-left}
+use mathlib.Core.Logic.{_⊎_, ⊎-elim}
 use mathlib.Core.Path.{_≡_, refl, sym, ap, _∙_}
 use native.Mathlib.Nat.{zero-mul}
 use native.Mathlib.Omega.{arith}
-use lib.Dec.{leb}
 use lib.ListN.{length}
 use Rattle.octets.specs.Octets.{Bytes, numberAt, laid}
 use Rattle.octets.specs.Choice.{either-way}
@@ -16,24 +15,23 @@ use Rattle.kinds.specs.declared.Kind.{Kind}
 use Rattle.kinds.specs.declared.Kind.the-variants.{Navigation}
 use Rattle.kinds.specs.declared.Known.{Known}
 use Rattle.kinds.specs.declared.Known.the-variants.{Is, Unknown}
-use Rattle.pieces.specs.Pieces.{countOf, offsetOf, sizeAt, pieceOf}
+use Rattle.pieces.specs.Pieces.{offsetOf, sizeAt, pieceOf}
 use Rattle.pieces.specs.PiecesLaws.{within, length-piece, size-before, size-last, last-offset, product-step}
 use Rattle.wire.specs.Frame.{Frame}
 use Rattle.commands.specs.Commands.{largestPacket, largestTotal, parametersCommand, packetCommand, accepted, parametersReply, notice}
-use Rattle.commands.specs.Commands.{parametersFor, packetFor, packetFrame}
-use Rattle.commands.specs.CommandsLaws.{piece-most}
+use Rattle.commands.specs.Commands.{parametersFor, packetFor}
 use Rattle.stages.specs.declared.plan.Stage.{Stage}
 use Rattle.stages.specs.declared.plan.Stage.the-variants.{Text, Asking, Declaring, Sending, Noticing, Restarting}
 use Rattle.module.specs.Session.{openable, openingOf, totalOf}
 use Rattle.module.specs.Rules.{dataIn, placeOf}
-use Rattle.module.specs.Runs.{Given, Exchange, exchange, nextOf, heardIn, payloadOf}
-use Rattle.module.specs.Outcomes.{Belongs, Expects, first, later, Accepted, loading, done}
+use Rattle.module.specs.Runs.{Given, Exchange, exchange, nextOf, payloadOf}
+use Rattle.module.specs.Outcomes.{Expects, first, later, Accepted, loading, done}
 use Rattle.module.specs.Said.{Quiet, Declares, Acknowledges, Turn, quiet, declares, writes, again, heardOf, turn-of}
 use Rattle.module.specs.Forward.{transferFor, type-read, length-read, total-read, number-read, data-read}
 use Rattle.module.specs.declared.session.Transfer.{Transfer}
 use Rattle.module.specs.declared.session.Pieces.{Pieces}
 use Rattle.module.specs.declared.session.Phase.{Phase}
-use Rattle.module.specs.declared.session.Phase.the-variants.{Closed, Ready, Begun, Loading, Done}
+use Rattle.module.specs.declared.session.Phase.the-variants.{Closed, Begun}
 use Rattle.module.specs.declared.session.Stepped.{Stepped}
 use Rattle.module.specs.declared.session.Event.{Event}
 use Rattle.module.specs.declared.session.Event.the-variants as event

@@ -1,16 +1,16 @@
 -- L1: whatever the line does, once the host has taken the notice the file is in the flash.
 use Prim.Native.Nat.{ℕ}
 use mathlib.Core.Bool.{Bool, true, false, false≢true}
-use mathlib.Core.List.{List, [], _∷_, _++_, List·Memᴰ, List·Memᴰ·not-nil, Memᴰ·append-left, Memᴰ·cast}
+use mathlib.Core.List.{List, [], _∷_, List·Memᴰ, List·Memᴰ·not-nil, Memᴰ·append-left, Memᴰ·cast}
 use mathlib.Core.Path.{_≡_, refl, sym, ap, _∙_}
 use lib.Dec.{ltb}
 use lib.ListN.{length, take}
 use lib.Seq.{take-length}
-use Rattle.octets.specs.Octets.{Bytes, over}
+use Rattle.octets.specs.Octets.{over}
 use Rattle.octets.specs.OctetsLaws.{take-over}
 use Rattle.octets.specs.Choice.{either-way}
 use Rattle.refusals.specs.Refusals.{noRoom, wrongImageLength}
-use Rattle.kinds.specs.Kinds.{numberOf, kindOf, baseOf, fitsFile}
+use Rattle.kinds.specs.Kinds.{numberOf, baseOf, fitsFile}
 use Rattle.kinds.specs.KindsLaws.{kind-of-number}
 use Rattle.kinds.specs.declared.Kind.{Kind}
 use Rattle.wire.specs.Frame.{Frame}
@@ -18,7 +18,6 @@ use Rattle.commands.specs.Commands.{notice}
 use Rattle.stages.specs.declared.plan.Rate.{Rate}
 use Rattle.stages.specs.declared.plan.Start.{Start}
 use Rattle.stages.specs.declared.plan.Start.the-variants.{WithText, AtOnce}
-use Rattle.module.specs.Runs as module-runs
 use Rattle.module.specs.RunsLaws.{heard-nothing}
 use Rattle.module.specs.Runs.{heardIn}
 use Rattle.module.specs.declared.session.Event.the-variants as module-event
@@ -26,7 +25,7 @@ use Rattle.module.specs.declared.session.Event as module-declared
 use Rattle.host.specs.Session.{firstStage, stepped, arises}
 use Rattle.host.specs.Messages.{messageOf}
 use Rattle.host.specs.Step.{Wishes, Left, left, planOf, waitingOf, endedOf, sends, planOpening, openingOf}
-use Rattle.host.specs.Runs.{Given, sentBy, afterOf}
+use Rattle.host.specs.Runs.{sentBy, afterOf}
 use Rattle.host.specs.Arises.{first-fits, reached-arises}
 use Rattle.host.specs.Promises.{Hears}
 use Rattle.host.specs.declared.session.Event.{Event}
@@ -35,12 +34,13 @@ use Rattle.host.specs.declared.session.Answer.the-variants.{Done, Sent, Refused
 use Rattle.host.specs.declared.session.Phase.the-variants.{Waiting}
 use Rattle.line.specs.Joined.{ModuleSession, Joined, Move, board-hears, board-waits, board-opens, host-hears, host-reads, host-waits}
 use Rattle.line.specs.Joined.{May, hostLeaves, after, afterAll, Allowed, joined}
-use Rattle.line.specs.Promises.{HasNotice, Holds, InFlash, FileInFlash}
-use Rattle.line.specs.Filled.{Kept, whole}
+use Rattle.line.specs.Promises.{HasNotice, InFlash, FileInFlash}
+use Rattle.line.specs.Filled.{whole}
 use Rattle.line.specs.Stand.{HostFrame, StageStands, HostStands, Stand}
 use Rattle.line.specs.BoardMoves as board
 use Rattle.line.specs.HostMoves as host
-use Rattle.line.specs.HostMoves.{isDone, stage-frames}
+use Rattle.line.specs.HostMoves.{stage-frames}
+use Rattle.line.specs.Lossless.{isDone}
 
 -- ---- what an end is given in a move
 

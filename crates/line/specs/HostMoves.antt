@@ -1,30 +1,27 @@
 -- A step of the host keeps how all stands together.
-use Prim.Native.Nat.{ℕ, _+_, _^_, _≤_}
-use mathlib.Core.Bool.{Bool, true, false, false≢true}
-use mathlib.Core.List.{List, [], _∷_, _++_, append-nil, List·Memᴰ, List·Memᴰ·append-cases, List·Memᴰ·not-nil, List·Memᴰ·eq-of-singleton}
+use Prim.Native.Nat.{ℕ, _≤_}
+use mathlib.Core.Bool.{Bool, true, false≢true}
+use mathlib.Core.List.{List, [], _∷_, append-nil, List·Memᴰ, List·Memᴰ·append-cases, List·Memᴰ·not-nil, List·Memᴰ·eq-of-singleton}
 use mathlib.Core.Logic.{⊎-elim}
 use mathlib.Core.Path.{_≡_, refl, sym, ap, _∙_}
 use native.Mathlib.Omega.{arith}
 use lib.ListN.{length, take}
-use Rattle.octets.specs.Octets.{Bytes, over, spelled}
+use Rattle.octets.specs.Octets.{Bytes, over}
 use Rattle.octets.specs.OctetsLaws.{take-over}
-use Rattle.kinds.specs.Kinds.{fitsFile, longestImage}
+use Rattle.kinds.specs.Kinds.{fitsFile}
 use Rattle.kinds.specs.KindsLaws.{image-short, file-some}
 use Rattle.kinds.specs.declared.Kind.{Kind}
 use Rattle.pieces.specs.Pieces.{countOf}
 use Rattle.pieces.specs.PiecesLaws.{count-some}
 use Rattle.wire.specs.Frame.{Frame, longestPayload, wireOf}
-use Rattle.reader.specs.Runs.{Placed}
 use Rattle.reader.specs.Seen.{seenHanded, sightOf}
 use Rattle.reader.specs.SeenLaws.{fresh-handed}
-use Rattle.commands.specs.Commands.{largestTotal, accepted, parametersReply, notice, startText}
+use Rattle.commands.specs.Commands.{startText}
 use Rattle.commands.specs.Commands.{rateFrame, parametersFrame, packetFrame, restartFrame}
-use Rattle.commands.specs.CommandsLaws.{length-parameters, length-packet, piece-most}
+use Rattle.commands.specs.CommandsLaws.{length-parameters}
 use Rattle.stages.specs.Stages.{numberOfRate, stageFits}
 use Rattle.stages.specs.StagesLaws.{SizeOf, sending-facts, sent-facts}
-use Rattle.stages.specs.Answers.{pieceSize}
 use Rattle.stages.specs.declared.plan.Plan.{Plan}
-use Rattle.stages.specs.declared.plan.Rate.{Rate}
 use Rattle.stages.specs.declared.plan.Stage.{Stage}
 use Rattle.stages.specs.declared.plan.Stage.the-variants.{Text, Asking, Declaring, Sending, Noticing, Restarting}
 use Rattle.module.specs.Step.{wiresOf}
@@ -33,7 +30,7 @@ use Rattle.module.specs.RunsLaws.{heard-wires, heard-nothing}
 use Rattle.host.specs.Session.{stepped, arises}
 use Rattle.host.specs.SessionLaws.{WaitOf, wait-facts}
 use Rattle.host.specs.Messages.{messageOf}
-use Rattle.host.specs.Step.{Wishes, Left, left, planOf, waitingOf, endedOf}
+use Rattle.host.specs.Step.{Wishes, Left, left, planOf, waitingOf}
 use Rattle.host.specs.StepLaws.{arisen, step-phase}
 use Rattle.host.specs.Runs.{Given, leaves, countIn, sentBy}
 use Rattle.host.specs.Arises.{step-arises, arises-wait}
@@ -46,10 +43,12 @@ use Rattle.host.specs.declared.session.Phase.the-variants.{Ended, Waiting}
 use Rattle.host.specs.declared.session.Session.{Session}
 use Rattle.host.specs.declared.session.Event.{Event}
 use Rattle.host.specs.declared.session.Answer.{Answer}
-use Rattle.host.specs.declared.session.Answer.the-variants.{Nothing, Sent, Done, Refused, Failed}
+use Rattle.host.specs.declared.session.Answer.the-variants.{Nothing, Done}
 use Rattle.line.specs.Joined.{Joined, hostTakes}
+use Rattle.line.specs.TransferLaws.{packet-short}
+use Rattle.line.specs.Lossless.{isDone}
 use Rattle.line.specs.Promises.{HasNotice}
-use Rattle.line.specs.Stand.{HostFrame, rate, parameters, packet, sizeOf, countedOf, StageStands, HostStands, Stand}
+use Rattle.line.specs.Stand.{HostFrame, rate, parameters, packet, sizeOf, StageStands, HostStands, Stand}
 use Rattle.line.specs.Stand as stand
 
 -- ---- what is heard of a message
@@ -67,14 +66,6 @@ heard-text = rw (fresh-handed startText) refl
 only-one : (f g : Frame) → length (g .payload) ≤ longestPayload → List·Memᴰ f (heardIn (wireOf g)) → f ≡ g
 only-one f g h m = List·Memᴰ·eq-of-singleton (rw (heard-one g h) at m)
 
--- Whether an answer says done.
-abbrev pub isDone : Answer → Bool
-isDone Nothing = false
-isDone (Sent n) = false
-isDone Done = true
-isDone (Refused number) = false
-isDone (Failed number passed n) = false
-
 -- A message that is sent is what is heard.
 sent-message : (next : Session) (answer : Answer) (message output : List ℕ) → countIn answer ≡ length message
     → heardIn (sentBy (left (stepped next answer) (over message output))) ≡ heardIn message
@@ -89,10 +80,8 @@ module _ (kind : Kind) (w : Wishes) (image : List ℕ) where
       → SizeOf (length image) (w .wish) size → 1 ≤ k → k ≤ countOf (length image) size → (f : Frame)
       → List·Memᴰ f (heardIn (wireOf (packetFrame image size k))) → HostFrame kind w image begun f
   packet-frames begun size k on is some cut one most f m =
-      let long : length (packetFrame image size k .payload) ≤ longestPayload =
-      omega (arith, cut .small, length-packet image size k, piece-most image size k) in
       packet k on some (rw (sym is) (cut .some)) one (rw (sym is) most) (rw (sym is) (cut .carried))
-      (only-one f (packetFrame image size k) long m ∙ ap (λ (s : ℕ). packetFrame image s k) is)
+      (only-one f (packetFrame image size k) (packet-short image size k (cut .small)) m ∙ ap (λ (s : ℕ). packetFrame image s k) is)
 
   pub stage-frames : (begun : Bool) (sent : List Frame) (stage : Stage) → fitsFile kind (length image) ≡ true
       → stageFits plan (length image) stage ≡ true → StageStands kind w image begun sent stage

@@ -14,7 +14,6 @@ use Rattle.host.specs.Step as host-step
 use Rattle.host.specs.Runs as host-runs
 use Rattle.host.specs.declared.session.Session as host-declared
 use Rattle.host.specs.declared.session.Event.the-variants as host-event
-use Rattle.host.specs.declared.session.Answer.{Answer}
 use Rattle.host.specs.declared.session.Answer.the-variants.{Nothing}
 
 abbrev pub ModuleSession : Type 0
@@ -53,6 +52,13 @@ May j (host-hears f output) = List·Memᴰ f (j .from-board) × Bytes (f .payloa
 May j (host-reads line output) = Bytes line
 May j (host-waits ms output) = Unit
 
+-- What an end leaves when it takes a frame; the payload is all of what is lent beside it.
+abbrev pub hostGets : List ℕ → List ℕ → HostSession → Frame → host-step.Left
+hostGets image output s f = host-step.stepOf s (host-event.Frame (f .command) (length (f .payload))) (f .payload) image output
+
+abbrev pub boardGets : List ℕ → List ℕ → ModuleSession → Frame → module-step.Left
+boardGets flash reply s f = module-step.stepOf s (module-event.Frame (f .command) (length (f .payload))) (f .payload) flash reply
+
 -- What a step of the module and one of the host leave of the whole.
 abbrev pub boardTakes : Joined → module-step.Left → Joined
 boardTakes j l = record {
@@ -86,16 +92,13 @@ abbrev pub hostLeaves : List ℕ → Joined → Move → host-step.Left
 hostLeaves image j (board-hears f reply) = host-step.left (record { session = j .host; answer = Nothing }) []
 hostLeaves image j (board-waits ms reply) = host-step.left (record { session = j .host; answer = Nothing }) []
 hostLeaves image j board-opens = host-step.left (record { session = j .host; answer = Nothing }) []
-hostLeaves image j (host-hears f output) =
-    host-step.stepOf (j .host) (host-event.Frame (f .command) (length (f .payload))) (f .payload) image output
+hostLeaves image j (host-hears f output) = hostGets image output (j .host) f
 hostLeaves image j (host-reads line output) = host-step.stepOf (j .host) (host-event.Line (length line)) line image output
 hostLeaves image j (host-waits ms output) = host-step.stepOf (j .host) (host-event.Elapsed ms) [] image output
 
 -- A move. Nobody else writes the flash: each step of the module is lent it as the last one left it.
 abbrev pub after : List ℕ → Joined → Move → Joined
-after image j (board-hears f reply) =
-    boardTakes j
-    (module-step.stepOf (j .board) (module-event.Frame (f .command) (length (f .payload))) (f .payload) (j .flash) reply)
+after image j (board-hears f reply) = boardTakes j (boardGets (j .flash) reply (j .board) f)
 after image j (board-waits ms reply) = boardTakes j (module-step.stepOf (j .board) (module-event.Elapsed ms) [] (j .flash) reply)
 after image j board-opens = boardOpens j
 after image j (host-hears f output) = hostTakes j (hostLeaves image j (host-hears f output))

@@ -1,20 +1,33 @@
 -- What the two ends promise together, to be read without the proofs. Each statement is proved in the file named beside it.
-use Prim.Native.Nat.{ℕ, _+_, _≤_, _<_}
-use mathlib.Core.List.{List, [], _∷_, _++_, List·Memᴰ}
-use mathlib.Core.Path.{_≡_}
+use Prim.Native.Nat.{_+_, _<_, _≤_, ℕ}
+use mathlib.Core.Bool.{true}
+use mathlib.Core.List.{List, List·Memᴰ, [], _++_, _∷_}
 use mathlib.Core.Logic.{_⊎_}
-use lib.ListN.{length, getD}
+use mathlib.Core.Path.{_≡_}
+use lib.ListN.{getD, length, take}
 use Rattle.octets.specs.Octets.{laid}
-use Rattle.kinds.specs.Kinds.{numberOf, baseOf}
+use Rattle.kinds.specs.Kinds.{baseOf, fitsFile, numberOf}
 use Rattle.kinds.specs.declared.Kind.{Kind}
+use Rattle.pieces.specs.Pieces.{countOf}
+use Rattle.wire.specs.Frame.{Frame}
+use Rattle.commands.specs.Commands.{accepted, largestPacket, largestTotal, notice, packetReply}
+use Rattle.reader.specs.Promises.{Any}
+use Rattle.stages.specs.Answers.{pieceSize}
 use Rattle.stages.specs.declared.plan.Rate.{Rate}
-use Rattle.stages.specs.declared.plan.Stage.{Stage}
 use Rattle.stages.specs.declared.plan.Stage.the-variants.{Restarting}
+use Rattle.module.specs.Promises.{Fits}
+use Rattle.module.specs.Runs.{countIn, heardIn}
+use Rattle.module.specs.Session.{takes}
+use Rattle.module.specs.Step.{smallestReply}
 use Rattle.host.specs.Step.{Wishes, openingOf}
-use Rattle.host.specs.declared.session.Wait.{Wait}
-use Rattle.host.specs.declared.session.Phase.the-variants.{Waiting}
 use Rattle.host.specs.declared.session.Answer.the-variants.{Done}
-use Rattle.line.specs.Joined.{ModuleSession, HostSession, Joined, Move, May, hostLeaves, after, afterAll, Allowed, joined}
+use Rattle.host.specs.declared.session.Phase.the-variants.{Waiting}
+use Rattle.host.specs.declared.session.Wait.{Wait}
+use Rattle.ends.specs.Board.{BoardLeft}
+use Rattle.ends.specs.declared.board.Board.{Board}
+use Rattle.line.specs.Feeds.{BoardAfter, Fed, Roomy, boardAfter, bytesOf, cleanBytes, fedOf}
+use Rattle.line.specs.Joined.{Allowed, HostSession, Joined, May, ModuleSession, Move, after, afterAll, hostLeaves, joined}
+use Rattle.line.specs.Lossless.{Talk, talkFrom, talks, turnsOf}
 
 -- ---- L1, the file is in the flash
 
@@ -52,3 +65,70 @@ FileInFlash =
     (kind : Kind) (w : Wishes) (image output : List ℕ) (s : ModuleSession) (flash : List ℕ) (moves : List Move)
     → let start = joined (openingOf (numberOf kind) w image output) s flash in
     Allowed image start moves → InFlash kind image flash (afterAll image start moves)
+
+-- ---- L2, a line that loses nothing
+
+-- A load is over:
+pub record Loaded (t : Talk) (flash : List ℕ) : Type 0 where
+  -- the host has said that it is done,
+  pub says-done : t .done ≡ true
+  -- the module's flash is this,
+  pub holds : t .flash ≡ flash
+  -- and no frame is under way.
+  pub none-to-board : t .to-board ≡ []
+  pub none-to-host : t .to-host ≡ []
+
+-- L2 (Load.antt). On a line that loses nothing the load ends in done:
+abbrev pub LosslessEnds : Type 0
+LosslessEnds =
+    -- for any type, any wishes of the caller, and any image that a file may carry,
+    (kind : Kind) (w : Wishes) (image : List ℕ) → fitsFile kind (length image) ≡ true
+    -- in pieces of the smaller of the module's 1,024 and the wish, if that is a size and two bytes carry their number,
+    → let size = pieceSize largestPacket (w .wish) in
+    1 ≤ size → countOf (length image) size ≤ largestTotal
+    -- from any open session of the module, whatever it has been through, over a flash of its length that the image fits,
+    → (s : ModuleSession) (flash : List ℕ) → takes s ≡ true → length flash ≡ s .flash → baseOf kind + length image ≤ length flash
+    -- with an output of at least 2,072 bytes lent to the host and a reply buffer of at least 64 lent to the module,
+    → (output reply : List ℕ) → 2072 ≤ length output → smallestReply ≤ length reply
+    -- after two turns for each packet and seven more the load is over, the image in its range and no other byte of the flash changed.
+    → Loaded (talks image output reply (turnsOf (countOf (length image) size)) (talkFrom kind w image output s flash))
+    (laid flash (baseOf kind) image)
+
+-- ---- L3, the board
+
+-- The bytes that the board sends at a byte, and a frame that a reader hears in them.
+abbrev pub sentAt : BoardLeft → List ℕ
+sentAt l = take (countIn (l .answer)) (l .reply)
+
+abbrev pub SaysAt : BoardLeft → Frame → Type 0
+SaysAt l f = List·Memᴰ f (heardIn (sentAt l))
+
+-- Bytes end in success:
+pub record BoardSucceeds (ls : List BoardLeft) (total : ℕ) (flash : List ℕ) : Type 0 where
+  -- there is a last byte, and at it
+  pub before : List BoardLeft
+  pub last : BoardLeft
+  pub split : ls ≡ before ++ (last ∷ [])
+  -- the board acknowledges the last packet,
+  pub acknowledges : SaysAt last (packetReply total accepted)
+  -- sends the notice of State 0,
+  pub success : SaysAt last (notice 0)
+  -- and leaves this flash.
+  pub leaves : last .flash ≡ flash
+
+-- L3 (Noise.antt). Any noise, then the bytes of a clean transfer:
+abbrev pub NoiseThenTransfer : Type 0
+NoiseThenTransfer =
+    -- for a board as the language makes one, its reader and its session with any numbers, over any flash,
+    (b : Board) (flash : List ℕ) → Any (b .reader)
+    -- after any bytes, with any reply buffers lent,
+    → (noise : List Fed)
+    -- if the session still takes events, and the flash has the length of its opening,
+    → let now : BoardAfter = boardAfter b flash noise in
+    takes (now .board .session) ≡ true → length (now .flash) ≡ now .board .session .flash
+    -- then for any image that fits that flash, in pieces of any size that serves,
+    → (kind : Kind) (image : List ℕ) (size : ℕ) → Fits kind image size (now .flash)
+    -- the bytes of its transfer, with reply buffers of at least 64 bytes,
+    → (transfer : List Fed) → bytesOf transfer ≡ cleanBytes kind image size → Roomy transfer
+    -- end in success, with the image in its range and no other byte of the flash changed.
+    → BoardSucceeds (fedOf (now .board) (now .flash) transfer) (countOf (length image) size) (laid (now .flash) (baseOf kind) image)

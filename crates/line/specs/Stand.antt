@@ -1,6 +1,6 @@
 -- How a host, a module and a flash stand together at any time of a load: what L1 keeps from move to move.
 use Prim.Native.Nat.{ℕ, _+_, _*_, _≤_}
-use mathlib.Core.Bool.{Bool, true, false}
+use mathlib.Core.Bool.{Bool, true}
 use mathlib.Core.List.{List, List·Memᴰ}
 use mathlib.Core.Path.{_≡_}
 use lib.ListN.{length}

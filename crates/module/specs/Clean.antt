@@ -314,11 +314,11 @@ cut-succeeds s flash kind image size os t long fits within-image h =
     (ends-behind (x ∷ []) (carried (x .left .session) (x .left .flash) (h .packets)) total goal (rw (leaves .0, leaves .1) begun)))
 
 -- A packet size over the length sends the image in one packet, as the length itself does.
-one-packet : (image : List ℕ) (size : ℕ) → 1 ≤ length image → length image < size → countOf (length image) size ≡ 1
+pub one-packet : (image : List ℕ) (size : ℕ) → 1 ≤ length image → length image < size → countOf (length image) size ≡ 1
 one-packet image size some more =
     count-only (length image) size 1 some (omega (arith, more)) (record { under = omega (arith, some); over = omega (arith, more) })
 
-same-packet : (image : List ℕ) (size : ℕ) → 1 ≤ length image → length image < size
+pub same-packet : (image : List ℕ) (size : ℕ) → 1 ≤ length image → length image < size
     → packetFor image size 1 ≡ packetFor image (length image) 1
 unfolding partOf
 same-packet image size some more =
