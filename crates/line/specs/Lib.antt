@@ -2,6 +2,7 @@
 -- (Promises); and below that the proofs. L1: how much of an image is in a flash (Filled), how all stands together (Stand), the moves of
 -- each end, and File. L2: Load. L3: Noise. Both of these use TransferLaws.
 pub mod Joined
+pub mod Wired
 pub mod Lossless
 pub mod Feeds
 pub mod Promises
@@ -13,3 +14,4 @@ pub mod HostMoves
 pub mod File
 pub mod Load
 pub mod Noise
+pub mod Wires

@@ -24,10 +24,12 @@ use Rattle.host.specs.declared.session.Answer.the-variants.{Done}
 use Rattle.host.specs.declared.session.Phase.the-variants.{Waiting}
 use Rattle.host.specs.declared.session.Wait.{Wait}
 use Rattle.ends.specs.Board.{BoardLeft}
+use Rattle.ends.specs.HostEnd.{hostHears}
 use Rattle.ends.specs.declared.board.Board.{Board}
 use Rattle.line.specs.Feeds.{BoardAfter, Fed, Roomy, boardAfter, bytesOf, cleanBytes, fedOf}
 use Rattle.line.specs.Joined.{Allowed, HostSession, Joined, May, ModuleSession, Move, after, afterAll, hostLeaves, joined}
 use Rattle.line.specs.Lossless.{Talk, talkFrom, talks, turnsOf}
+use Rattle.line.specs.Wired.{Wired, Feed, host-byte, MayFeed, MayAll, fedAll, wired}
 
 -- ---- L1, the file is in the flash
 
@@ -65,6 +67,23 @@ FileInFlash =
     (kind : Kind) (w : Wishes) (image output : List ℕ) (s : ModuleSession) (flash : List ℕ) (moves : List Move)
     → let start = joined (openingOf (numberOf kind) w image output) s flash in
     Allowed image start moves → InFlash kind image flash (afterAll image start moves)
+
+-- The same of a board and a host's end that are fed bytes. The line may damage, lose, insert, repeat and reorder bytes as it likes, as long
+-- as a frame that a reader then hands out is one that the other end has sent.
+pub record InFlashByBytes (kind : Kind) (image before : List ℕ) (x : Wired) : Type 0 where
+  pub length-same : length (x .flash) ≡ length before
+  pub elsewhere : (i : ℕ) → Outside kind image i → getD (x .flash) i 0 ≡ getD before i 0
+  pub noticed : HasNotice (x .host .session) → (more : List Feed) → MayAll image x more
+      → Holds kind image before (fedAll image x more .flash)
+  pub done-noticed : (byte : ℕ) (output : List ℕ) → MayFeed x (host-byte byte output)
+      → hostHears (x .host) byte image output .answer ≡ Done → HasNotice (x .host .session)
+
+-- L1 of bytes (Wires.antt). The board has any reader and any session.
+abbrev pub FileByBytes : Type 0
+FileByBytes =
+    (kind : Kind) (w : Wishes) (image output : List ℕ) (b : Board) (flash : List ℕ) (feeds : List Feed)
+    → let start = wired (openingOf (numberOf kind) w image output) b flash in
+    MayAll image start feeds → InFlashByBytes kind image flash (fedAll image start feeds)
 
 -- ---- L2, a line that loses nothing
 

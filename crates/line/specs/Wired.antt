@@ -1,0 +1,114 @@
+-- A board and a host's end on one line, fed bytes: where both stand, what each has sent, the flash, and what the line feeds them.
+use Prim.Native.Nat.{ℕ}
+use mathlib.Core.List.{List, [], _∷_, _++_, List·Memᴰ}
+use lib.ListN.{take}
+use Rattle.octets.specs.Octets.{Bytes}
+use Rattle.wire.specs.Frame.{Frame}
+use Rattle.reader.specs.Reader as reader
+use Rattle.reader.specs.declared.steps.Reader.{Reader}
+use Rattle.module.specs.Session as module-session
+use Rattle.module.specs.Runs.{heardIn}
+use Rattle.module.specs.Runs as module-runs
+use Rattle.host.specs.Step as host-step
+use Rattle.host.specs.Runs as host-runs
+use Rattle.ends.specs.Board.{BoardLeft, boardOf, boardHears, boardWaits}
+use Rattle.ends.specs.HostEnd.{HostLeft, endOf, hostHears, hostWaits}
+use Rattle.ends.specs.declared.board.Board.{Board}
+use Rattle.ends.specs.declared.host_end.HostEnd.{HostEnd}
+use Rattle.line.specs.Joined.{Joined}
+
+-- Both ends, the flash, and every frame that each end has sent since the host's opening.
+pub record Wired : Type 0 where
+  pub host : HostEnd
+  pub board : Board
+  pub flash : List ℕ
+  pub from-host : List Frame
+  pub from-board : List Frame
+
+-- What the line does next: a byte, sent or not, damaged or not, or some time, reaches an end, with the reply buffer or the output that
+-- it is lent; or the board opens its session anew.
+pub data Feed : Type 0 where
+  board-byte : ℕ → List ℕ → Feed
+  board-time : ℕ → List ℕ → Feed
+  board-anew : Feed
+  host-byte : ℕ → List ℕ → Feed
+  host-time : ℕ → List ℕ → Feed
+
+-- The frames that a byte completes for a reader: one or none.
+abbrev pub completes : Reader → ℕ → List Frame
+completes r byte = reader.framesOf (reader.stepOf r byte)
+
+-- Noise may be any, but for one thing: a frame that it completes is one that the other end has sent. Payloads are bytes.
+abbrev pub Sent : List Frame → List Frame → Type 0
+Sent sent fs = (f : Frame) → List·Memᴰ f fs → List·Memᴰ f sent × Bytes (f .payload)
+
+abbrev pub MayFeed : Wired → Feed → Type 0
+MayFeed x (board-byte byte reply) = Sent (x .from-host) (completes (x .board .reader) byte)
+MayFeed x (board-time ms reply) = Unit
+MayFeed x board-anew = Unit
+MayFeed x (host-byte byte output) = Sent (x .from-board) (completes (x .host .reader) byte)
+MayFeed x (host-time ms output) = Unit
+
+-- What each end leaves of the whole.
+abbrev pub boardFed : Wired → BoardLeft → Wired
+boardFed x l = record {
+  host = x .host;
+  board = l .board;
+  flash = l .flash;
+  from-host = x .from-host;
+  from-board = x .from-board ++ heardIn (take (module-runs.countIn (l .answer)) (l .reply));
+}
+
+abbrev pub hostFed : Wired → HostLeft → Wired
+hostFed x l = record {
+  host = l .end;
+  board = x .board;
+  flash = x .flash;
+  from-host = x .from-host ++ heardIn (take (host-runs.countIn (l .answer)) (l .output));
+  from-board = x .from-board;
+}
+
+abbrev pub boardAnew : Wired → Wired
+boardAnew x = record {
+  host = x .host;
+  board = boardOf (module-session.openingOf (x .flash) .session);
+  flash = x .flash;
+  from-host = x .from-host;
+  from-board = x .from-board;
+}
+
+abbrev pub fed : List ℕ → Wired → Feed → Wired
+fed image x (board-byte byte reply) = boardFed x (boardHears (x .board) byte (x .flash) reply)
+fed image x (board-time ms reply) = boardFed x (boardWaits (x .board) ms (x .flash) reply)
+fed image x board-anew = boardAnew x
+fed image x (host-byte byte output) = hostFed x (hostHears (x .host) byte image output)
+fed image x (host-time ms output) = hostFed x (hostWaits (x .host) ms image output)
+
+-- A run of them, each allowed where it comes.
+abbrev pub fedAll : List ℕ → Wired → List Feed → Wired
+fedAll image x [] = x
+fedAll image x (f ∷ fs) = fedAll image (fed image x f) fs
+
+abbrev pub MayAll : List ℕ → Wired → List Feed → Type 0
+MayAll image x [] = Unit
+MayAll image x (f ∷ fs) = MayFeed x f × MayAll image (fed image x f) fs
+
+-- What an opening of the host joins to any board and any flash. The first message, if it is a frame, has been sent.
+abbrev pub wired : host-step.Left → Board → List ℕ → Wired
+wired opening b flash = record {
+  host = endOf (opening .session);
+  board = b;
+  flash = flash;
+  from-host = heardIn (host-runs.sentBy opening);
+  from-board = [];
+}
+
+-- The same without the readers.
+abbrev pub joinedIn : Wired → Joined
+joinedIn x = record {
+  host = x .host .session;
+  board = x .board .session;
+  flash = x .flash;
+  from-host = x .from-host;
+  from-board = x .from-board;
+}
