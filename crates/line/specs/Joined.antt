@@ -1,6 +1,6 @@
 -- A host and a module joined by a line: where both ends stand, what each has sent, the flash, and the moves.
 use Prim.Native.Nat.{ℕ}
-use mathlib.Core.List.{List, [], _∷_, _++_, List·Memᴰ}
+use mathlib.Core.List.{List, [], _++_, List·Memᴰ}
 use lib.ListN.{length}
 use Rattle.octets.specs.Octets.{Bytes}
 use Rattle.wire.specs.Frame.{Frame}
@@ -15,6 +15,7 @@ use Rattle.host.specs.Runs as host-runs
 use Rattle.host.specs.declared.session.Session as host-declared
 use Rattle.host.specs.declared.session.Event.the-variants as host-event
 use Rattle.host.specs.declared.session.Answer.the-variants.{Nothing}
+use Rattle.line.specs.Steps.{afterEach, EachMay}
 
 abbrev pub ModuleSession : Type 0
 ModuleSession = module-declared.Session
@@ -107,12 +108,10 @@ after image j (host-waits ms output) = hostTakes j (hostLeaves image j (host-wai
 
 -- A run of moves, each allowed where it is made.
 abbrev pub afterAll : List ℕ → Joined → List Move → Joined
-afterAll image j [] = j
-afterAll image j (m ∷ ms) = afterAll image (after image j m) ms
+afterAll image = afterEach (after image)
 
 abbrev pub Allowed : List ℕ → Joined → List Move → Type 0
-Allowed image j [] = Unit
-Allowed image j (m ∷ ms) = May j m × Allowed image (after image j m) ms
+Allowed image = EachMay May (after image)
 
 -- What an opening of the host joins to any session of the module and any flash: the first frame, if it is one, has been sent.
 abbrev pub joined : host-step.Left → ModuleSession → List ℕ → Joined

@@ -1,6 +1,6 @@
 -- A board and a host's end on one line, fed bytes: where both stand, what each has sent, the flash, and what the line feeds them.
 use Prim.Native.Nat.{ℕ}
-use mathlib.Core.List.{List, [], _∷_, _++_, List·Memᴰ}
+use mathlib.Core.List.{List, [], _++_, List·Memᴰ}
 use lib.ListN.{take}
 use Rattle.octets.specs.Octets.{Bytes}
 use Rattle.wire.specs.Frame.{Frame}
@@ -15,6 +15,7 @@ use Rattle.ends.specs.Board.{BoardLeft, boardOf, boardHears, boardWaits}
 use Rattle.ends.specs.HostEnd.{HostLeft, endOf, hostHears, hostWaits}
 use Rattle.ends.specs.declared.board.Board.{Board}
 use Rattle.ends.specs.declared.host_end.HostEnd.{HostEnd}
+use Rattle.line.specs.Steps.{afterEach, EachMay}
 use Rattle.line.specs.Joined.{Joined}
 
 -- Both ends, the flash, and every frame that each end has sent since the host's opening.
@@ -86,12 +87,10 @@ fed image x (host-time ms output) = hostFed x (hostWaits (x .host) ms image outp
 
 -- A run of them, each allowed where it comes.
 abbrev pub fedAll : List ℕ → Wired → List Feed → Wired
-fedAll image x [] = x
-fedAll image x (f ∷ fs) = fedAll image (fed image x f) fs
+fedAll image = afterEach (fed image)
 
 abbrev pub MayAll : List ℕ → Wired → List Feed → Type 0
-MayAll image x [] = Unit
-MayAll image x (f ∷ fs) = MayFeed x f × MayAll image (fed image x f) fs
+MayAll image = EachMay MayFeed (fed image)
 
 -- What an opening of the host joins to any board and any flash. The first message, if it is a frame, has been sent.
 abbrev pub wired : host-step.Left → Board → List ℕ → Wired

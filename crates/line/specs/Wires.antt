@@ -34,7 +34,8 @@ use Rattle.ends.specs.HostEnd as end
 use Rattle.ends.specs.Text.{followed}
 use Rattle.ends.specs.declared.board.Board.{Board}
 use Rattle.line.specs.Joined.{ModuleSession, HostSession, Joined, Move, board-hears, board-waits, board-opens, host-hears, host-reads, host-waits}
-use Rattle.line.specs.Joined.{after, afterAll, Allowed, boardGets, hostGets, boardTakes, hostTakes}
+use Rattle.line.specs.Joined.{May, after, afterAll, Allowed, boardGets, hostGets, boardTakes, hostTakes}
+use Rattle.line.specs.Steps.{each-append, may-append}
 use Rattle.line.specs.Lossless.{isDone}
 use Rattle.line.specs.Promises.{HasNotice, InFlash, FileByBytes}
 use Rattle.line.specs.File.{file-in-flash}
@@ -139,16 +140,6 @@ feed-moves image x (host-time ms output) may = record { moves = host-waits ms ou
 
 -- ---- any feeds
 
--- Moves behind others.
-all-append : (image : List ℕ) (j : Joined) (ms ns : List Move) → afterAll image j (ms ++ ns) ≡ afterAll image (afterAll image j ms) ns
-all-append image j [] ns = refl
-all-append image j (m ∷ ms) ns = all-append image (after image j m) ms ns
-
-may-append : (image : List ℕ) (j : Joined) (ms ns : List Move) → Allowed image j ms → Allowed image (afterAll image j ms) ns
-    → Allowed image j (ms ++ ns)
-may-append image j [] ns a b = b
-may-append image j (m ∷ ms) ns a b = (a .0, may-append image (after image j m) ms ns (a .1) b)
-
 feeds-move : (image : List ℕ) (x : Wired) (fs : List Feed) → MayAll image x fs → Moved image x (fedAll image x fs)
 feeds-move image x [] may = record { moves = []; may = tt; leads = refl }
 feeds-move image x (f ∷ fs) may =
@@ -156,11 +147,11 @@ feeds-move image x (f ∷ fs) may =
     let rest = feeds-move image (fed image x f) fs (may .1) in
     record {
       moves = one .moves ++ rest .moves;
-      may = may-append image (joinedIn x) (one .moves) (rest .moves) (one .may) (rw (one .leads) at (rest .may));
+      may = may-append May (after image) (joinedIn x) (one .moves) (rest .moves) (one .may) (rw (one .leads) at (rest .may));
       leads =
           rest .leads
           ∙ ap (λ (j : Joined). afterAll image j (rest .moves)) (one .leads)
-          ∙ sym (all-append image (joinedIn x) (one .moves) (rest .moves));
+          ∙ sym (each-append (after image) (joinedIn x) (one .moves) (rest .moves));
     }
 
 -- ---- L1 of bytes
