@@ -1,8 +1,11 @@
 // What programs print for people, and whole files in and out. No contract can speak of what an operating system reads or writes, so
 // these calls are proved to be safe and to end, and what they do is tested.
+mod arguments;
 mod files;
 mod show;
+pub mod voice;
 
+pub use arguments::argument_number;
 pub use files::Got;
 pub use files::read_whole;
 pub use files::write_whole;

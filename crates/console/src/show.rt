@@ -1,38 +1,25 @@
 // Texts and numbers on standard output.
+use crate::voice;
 use kinds::Kind;
 use libc::STDOUT_FILENO;
 
 // Bytes as they are.
 pub fn say(bytes: &[u8]) {
-    io::write_all(STDOUT_FILENO, bytes);
+    voice::say(STDOUT_FILENO, bytes);
 }
 
 pub fn number(n: usize) {
-    io::print_decimal(STDOUT_FILENO, n as u64);
+    voice::number(STDOUT_FILENO, n);
 }
 
 // A refusal number and its words.
 pub fn refusal(number: u8) {
-    say(b"refused ");
-    io::print_decimal(STDOUT_FILENO, number as u64);
-    say(b", ");
-    let mut words = [0u8; 64];
-    let n = refusals::words(number, &mut words);
-    say(&words[..n]);
-}
-
-// A type in words.
-fn kind(kind: Kind) {
-    match kind {
-        Kind::Navigation => say(b"navigation code"),
-        Kind::Upgrade => say(b"upgrade code"),
-        Kind::Parameters => say(b"working parameters"),
-    }
+    voice::refusal(STDOUT_FILENO, number);
 }
 
 // Where an image goes and where it stands in its block.
 pub fn placed(image: Kind, length: u32, start: u32) {
-    kind(image);
+    voice::kind(STDOUT_FILENO, image);
     say(b", address ");
     word(kinds::base_of(image));
     say(b", length ");
@@ -43,16 +30,7 @@ pub fn placed(image: Kind, length: u32, start: u32) {
 
 // A number of four bytes in hex, high byte first, as people write it.
 pub fn word(x: u32) {
-    let bytes = [
-        (x / 16777216 % 256) as u8,
-        (x / 65536 % 256) as u8,
-        (x / 256 % 256) as u8,
-        (x % 256) as u8,
-    ];
-    let mut digits = [0u8; 8];
-    let n = hex::show(&bytes, &mut digits);
-    say(b"0x");
-    say(&digits[..n]);
+    voice::word(STDOUT_FILENO, x);
 }
 
 // Bytes in hex with a space before each, filled up with spaces to so many places.

@@ -1,5 +1,4 @@
 // Makes a UBF file of one block from a raw image file and the block's fields.
-ghost use Prim.Native.Nat.{_<_};
 use console::Got;
 use kinds::Known;
 use refusals::Written;
@@ -35,8 +34,8 @@ fn usage() {
 
 // Takes type and start, and works out the address that goes with the type.
 fn pack_image(image: &[u8]) {
-    let number = argument_number(3);
-    let start = argument_number(4);
+    let number = console::argument_number(3);
+    let start = console::argument_number(4);
     if number > 65535 || start > 4294967295 {
         usage();
         return;
@@ -55,45 +54,6 @@ fn address_of(number: u16) -> u32 {
         Known::Is(kind) => kinds::base_of(kind),
         Known::Unknown => 0,
     }
-}
-
-// A number given as an argument, in decimal digits; more than any field can hold where it is no such number.
-fn argument_number(i: usize) -> u64 {
-    let mut text = [0u8; 16];
-    let n = os::arg(i, &mut text);
-    if os::errno() != 0 {
-        return u64::MAX;
-    }
-    decimal_of(&text[..n])
-}
-
-fn decimal_of(text: &[u8]) -> u64 {
-    if text.len() == 0 {
-        return u64::MAX;
-    }
-    let mut value: u64 = 0;
-    let mut i = 0;
-    while i < text.len() {
-        let digit = text[i];
-        if digit < b'0' || digit > b'9' {
-            return u64::MAX;
-        }
-        if value > 4294967295 {
-            return u64::MAX;
-        }
-        value = value * 10 + digit_value(digit);
-        i += 1;
-    }
-    value
-}
-
-fn digit_value(digit: u8) -> u64
-    ensures { λ r. ⌜ r < 256 ⌝ }
-{
-    if digit < b'0' {
-        return 0;
-    }
-    (digit - b'0') as u64
 }
 
 fn pack_texts(numbers: Numbers, image: &[u8]) {

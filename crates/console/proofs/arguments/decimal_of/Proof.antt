@@ -1,9 +1,9 @@
--- `pack::decimal_of` is safe and ends: a value that is too large is given up before it could wrap.
+-- `decimal_of` is safe and ends: a value that is too large is given up before it could wrap.
 use borrow.Author.Needs.{needs}
 use Prim.Native.Nat.{_-_, _^_, _<_}
 use lib.ListN.{length}
-use Rattle.pack.proofs.decimal_of.Statement.{statement}
-use Rattle.pack.proofs.decimal_of.Tie as tie
+use Rattle.console.proofs.arguments.decimal_of.Statement.{statement}
+use Rattle.console.proofs.arguments.decimal_of.Tie as tie
 
 abbrev Inv-loop : tie.InvT-loop
 Inv-loop text value₀ i₀ value i = value < 2 ^ 64

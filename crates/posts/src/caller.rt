@@ -1,0 +1,61 @@
+// A host on a line, and what it has resent and dropped.
+use crate::post::more;
+use ends::HostEnd;
+use ends::HostStep;
+use host::Answer;
+use host::Session;
+
+pub struct Caller {
+    pub end: HostEnd,
+    pub resent: usize,
+    pub dropped: usize,
+}
+
+pub struct CallerStep {
+    pub caller: Caller,
+    pub answer: Answer,
+}
+
+impl Caller {
+    pub fn new(session: Session) -> Caller {
+        Caller {
+            end: HostEnd::new(session),
+            resent: 0,
+            dropped: 0,
+        }
+    }
+
+    pub fn session(self) -> Session {
+        let end = self.end;
+        end.session
+    }
+
+    // Takes one byte.
+    pub fn hear(self, byte: u8, image: &[u8], out: &mut [u8]) -> CallerStep {
+        let end = self.end;
+        self.went(end.hear(byte, image, out))
+    }
+
+    // Milliseconds pass.
+    pub fn wait(self, ms: u32, image: &[u8], out: &mut [u8]) -> CallerStep {
+        let end = self.end;
+        self.went(end.wait(ms, image, out))
+    }
+
+    // What the step of the end leaves. The session counts the repeats of the message under way only, so each one is added up here.
+    fn went(self, step: HostStep) -> CallerStep {
+        let before = self.session();
+        let end = step.end;
+        let after = end.session;
+        let answer = step.answer;
+        let again = before.resent() < after.resent();
+        CallerStep {
+            caller: Caller {
+                end: end,
+                resent: more(self.resent, again),
+                dropped: more(self.dropped, step.dropped),
+            },
+            answer: answer,
+        }
+    }
+}

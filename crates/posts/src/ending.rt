@@ -1,0 +1,91 @@
+// How a load ended, and the words for it.
+use console::voice;
+use host::Answer;
+
+// Number 0 is done; with 21 and 22 passed is the module's byte. Fields are plain numbers, so that a loop can carry them.
+pub struct Ending {
+    pub over: bool,
+    pub number: u8,
+    pub passed: u8,
+}
+
+// A load under way.
+pub fn begun() -> Ending {
+    Ending {
+        over: false,
+        number: 0,
+        passed: 0,
+    }
+}
+
+// What an answer of the host says of the end.
+pub fn ended_by(answer: Answer) -> Ending {
+    match answer {
+        Answer::Nothing => begun(),
+        Answer::Sent(_) => begun(),
+        Answer::Done => over(0, 0),
+        Answer::Refused(number) => over(number, 0),
+        Answer::Failed {
+            number,
+            passed,
+            count,
+        } => over(number, passed),
+    }
+}
+
+// How many bytes an answer says are to be sent.
+pub fn said(answer: Answer) -> usize {
+    match answer {
+        Answer::Nothing => 0,
+        Answer::Sent(n) => n,
+        Answer::Done => 0,
+        Answer::Refused(number) => 0,
+        Answer::Failed {
+            number,
+            passed,
+            count,
+        } => count,
+    }
+}
+
+fn over(number: u8, passed: u8) -> Ending {
+    Ending {
+        over: true,
+        number: number,
+        passed: passed,
+    }
+}
+
+// Done, or the number, its words and what was passed on.
+pub fn show_ending(fd: i32, ending: Ending, packets: usize, resent: usize) {
+    if !ending.over {
+        voice::say(fd, b"not ended");
+    } else if ending.number == 0 {
+        voice::say(fd, b"done");
+    } else {
+        voice::refusal(fd, ending.number);
+        show_passed(fd, ending);
+    }
+    voice::say(fd, b"; packets accepted ");
+    voice::number(fd, packets);
+    voice::say(fd, b", messages resent ");
+    voice::number(fd, resent);
+    voice::say(fd, b"\n");
+}
+
+fn show_passed(fd: i32, ending: Ending) {
+    let number = ending.number;
+    match number {
+        refusals::MODULE_REFUSED => {
+            voice::say(fd, b", ACK ");
+            voice::byte(fd, ending.passed);
+            voice::say(fd, b" passed on");
+        }
+        refusals::BAD_NOTICE => {
+            voice::say(fd, b", State ");
+            voice::byte(fd, ending.passed);
+            voice::say(fd, b" passed on");
+        }
+        _ => (),
+    }
+}

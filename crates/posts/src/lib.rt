@@ -1,0 +1,19 @@
+// Both ends of a line as programs keep them: a post that waits for the start text, and a caller that counts what it resends; and how
+// a load ended, in words. These calls are proved to be safe and to end; what they stand on is proved in `line`.
+mod caller;
+mod ending;
+mod post;
+mod view;
+
+pub use caller::Caller;
+pub use caller::CallerStep;
+pub use ending::Ending;
+pub use ending::begun;
+pub use ending::ended_by;
+pub use ending::said;
+pub use ending::show_ending;
+pub use post::Post;
+pub use post::PostStep;
+pub use view::View;
+pub use view::is_idle;
+pub use view::view_of;
