@@ -8,8 +8,8 @@ use Rattle.wire.specs.Frame.{wireOf}
 use Rattle.commands.specs.Commands.{parametersFrame}
 use Rattle.module.specs.Step.{smallestReply}
 use Rattle.host.specs.Promises.{packetsSent}
-use Rattle.ends.specs.Board.{BoardLeft, boardHears}
-use Rattle.ends.specs.declared.board.Board.{Board}
+use Rattle.board_end.specs.Board.{BoardLeft, boardHears}
+use Rattle.board_end.specs.declared.board.Board.{Board}
 
 -- One byte, and the reply buffer lent with it.
 pub record Fed : Type 0 where

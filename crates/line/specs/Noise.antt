@@ -29,12 +29,12 @@ use Rattle.module.specs.Promises.{Frames, Fits, EndsInSuccess}
 use Rattle.module.specs.declared.session.Session.{Session}
 use Rattle.module.specs.declared.session.Event.the-variants as event
 use Rattle.host.specs.Promises.{packetsSent}
-use Rattle.ends.specs.Board.{BoardLeft, boardWith, beside, heardBy, frameHeard, boardHears}
+use Rattle.board_end.specs.Board.{BoardLeft, boardWith, beside, heardBy, frameHeard, boardHears}
 use Rattle.line.specs.Feeds.{Fed, bytesOf, Roomy, hearsFed, BoardAfter, boardAfter, fedOf, cleanBytes}
 use Rattle.line.specs.TransferLaws.{not-none, last-single, last-behind, packetFrames, packets-short, parameters-short}
 use Rattle.line.specs.TransferLaws.{EachFrame, frames-succeed}
 use Rattle.line.specs.Promises.{BoardSucceeds, NoiseThenTransfer}
-use Rattle.ends.specs.declared.board.Board.{Board}
+use Rattle.board_end.specs.declared.board.Board.{Board}
 
 -- ---- one byte
 

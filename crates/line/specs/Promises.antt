@@ -23,9 +23,9 @@ use Rattle.host.specs.Step.{Wishes, openingOf}
 use Rattle.host.specs.declared.session.Answer.the-variants.{Done}
 use Rattle.host.specs.declared.session.Phase.the-variants.{Waiting}
 use Rattle.host.specs.declared.session.Wait.{Wait}
-use Rattle.ends.specs.Board.{BoardLeft}
-use Rattle.ends.specs.HostEnd.{hostHears}
-use Rattle.ends.specs.declared.board.Board.{Board}
+use Rattle.board_end.specs.Board.{BoardLeft}
+use Rattle.host_end.specs.HostEnd.{hostHears}
+use Rattle.board_end.specs.declared.board.Board.{Board}
 use Rattle.line.specs.Feeds.{BoardAfter, Fed, Roomy, boardAfter, bytesOf, cleanBytes, fedOf}
 use Rattle.line.specs.Joined.{Allowed, HostSession, Joined, May, ModuleSession, Move, after, afterAll, hostLeaves, joined}
 use Rattle.line.specs.Lossless.{Talk, talkFrom, talks, turnsOf}

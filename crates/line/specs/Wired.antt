@@ -11,10 +11,10 @@ use Rattle.module.specs.Runs.{heardIn}
 use Rattle.module.specs.Runs as module-runs
 use Rattle.host.specs.Step as host-step
 use Rattle.host.specs.Runs as host-runs
-use Rattle.ends.specs.Board.{BoardLeft, boardOf, boardHears, boardWaits}
-use Rattle.ends.specs.HostEnd.{HostLeft, endOf, hostHears, hostWaits}
-use Rattle.ends.specs.declared.board.Board.{Board}
-use Rattle.ends.specs.declared.host_end.HostEnd.{HostEnd}
+use Rattle.board_end.specs.Board.{BoardLeft, boardOf, boardHears, boardWaits}
+use Rattle.host_end.specs.HostEnd.{HostLeft, endOf, hostHears, hostWaits}
+use Rattle.board_end.specs.declared.board.Board.{Board}
+use Rattle.host_end.specs.declared.end.HostEnd.{HostEnd}
 use Rattle.line.specs.Steps.{afterEach, EachMay}
 use Rattle.line.specs.Joined.{Joined}
 

@@ -29,10 +29,10 @@ use Rattle.host.specs.declared.session.Phase.{Phase}
 use Rattle.host.specs.declared.session.Phase.the-variants.{Ended, Waiting}
 use Rattle.host.specs.declared.session.Event.the-variants as host-event
 use Rattle.host.specs.declared.session.Answer.the-variants.{Done}
-use Rattle.ends.specs.Board as board
-use Rattle.ends.specs.HostEnd as end
-use Rattle.ends.specs.Text.{followed}
-use Rattle.ends.specs.declared.board.Board.{Board}
+use Rattle.board_end.specs.Board as board
+use Rattle.host_end.specs.HostEnd as end
+use Rattle.host_end.specs.Text.{followed}
+use Rattle.board_end.specs.declared.board.Board.{Board}
 use Rattle.line.specs.Joined.{ModuleSession, HostSession, Joined, Move, board-hears, board-waits, board-opens, host-hears, host-reads, host-waits}
 use Rattle.line.specs.Joined.{May, after, afterAll, Allowed, boardGets, hostGets, boardTakes, hostTakes}
 use Rattle.line.specs.Steps.{each-append, may-append}

@@ -1,9 +1,9 @@
 // A host on a line, and what it has resent and dropped.
 use crate::post::more;
-use ends::HostEnd;
-use ends::HostStep;
 use host::Answer;
 use host::Session;
+use host_end::HostEnd;
+use host_end::HostStep;
 
 pub struct Caller {
     pub end: HostEnd,

@@ -1,6 +1,6 @@
 // A module on a line: without a session it waits for the start text, answers it and opens one.
-use ends::Board;
-use ends::BoardStep;
+use board_end::Board;
+use board_end::BoardStep;
 use module::Answer;
 use module::Session;
 
@@ -51,7 +51,7 @@ impl Post {
             let board = self.board;
             return self.went(board.hear(byte, flash, reply));
         }
-        let seen = ends::follow(b"$PCAS20*03\r\n", self.seen, byte);
+        let seen = host_end::follow(b"$PCAS20*03\r\n", self.seen, byte);
         if seen == 12 {
             return self.begins(flash, reply);
         }

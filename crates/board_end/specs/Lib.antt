@@ -1,0 +1,2 @@
+-- A board fed bytes.
+pub mod Board

@@ -1,4 +1,0 @@
--- A text on a line, the two ends fed bytes.
-pub mod Text
-pub mod Board
-pub mod HostEnd
