@@ -1,4 +1,6 @@
 // A host on a line, and what it has resent and dropped.
+ghost use mathlib.Core.Path.{_≡_};
+ghost use Rattle.posts.specs.Caller.{callerLeft, callerOf, calledStep, callerHears, callerWaits};
 use crate::post::more;
 use host::Answer;
 use host::Session;
@@ -17,7 +19,9 @@ pub struct CallerStep {
 }
 
 impl Caller {
-    pub fn new(session: Session) -> Caller {
+    pub fn new(session: Session) -> Caller
+        ensures { λ r. ⌜ r ≡ callerOf session ⌝ }
+    {
         Caller {
             end: HostEnd::new(session),
             resent: 0,
@@ -25,25 +29,33 @@ impl Caller {
         }
     }
 
-    pub fn session(self) -> Session {
+    pub fn session(self) -> Session
+        ensures { λ r. ⌜ r ≡ self .end .session ⌝ }
+    {
         let end = self.end;
         end.session
     }
 
     // Takes one byte.
-    pub fn hear(self, byte: u8, image: &[u8], out: &mut [u8]) -> CallerStep {
+    pub fn hear(self, byte: u8, image: &[u8], out: &mut [u8]) -> CallerStep
+        ensures { λ r. ⌜ callerLeft r (now (out .exit)) ≡ callerHears self byte (now (image .entry)) (now (out .entry)) ⌝ }
+    {
         let end = self.end;
         self.went(end.hear(byte, image, out))
     }
 
     // Milliseconds pass.
-    pub fn wait(self, ms: u32, image: &[u8], out: &mut [u8]) -> CallerStep {
+    pub fn wait(self, ms: u32, image: &[u8], out: &mut [u8]) -> CallerStep
+        ensures { λ r. ⌜ callerLeft r (now (out .exit)) ≡ callerWaits self ms (now (image .entry)) (now (out .entry)) ⌝ }
+    {
         let end = self.end;
         self.went(end.wait(ms, image, out))
     }
 
     // What the step of the end leaves. The session counts the repeats of the message under way only, so each one is added up here.
-    fn went(self, step: HostStep) -> CallerStep {
+    fn went(self, step: HostStep) -> CallerStep
+        ensures { λ r. ⌜ r ≡ calledStep self step ⌝ }
+    {
         let before = self.session();
         let end = step.end;
         let after = end.session;

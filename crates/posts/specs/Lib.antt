@@ -1,0 +1,3 @@
+-- A board that waits for the start text, and a host's end that counts.
+pub mod Post
+pub mod Caller
