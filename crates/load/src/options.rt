@@ -24,7 +24,7 @@ pub fn usage() {
     );
     voice::say(
         STDERR_FILENO,
-        b"LINE is a terminal, or - for standard input and output\nRATE is 9600, 19200, 38400, 57600 or 115200 (the default)\n",
+        b"LINE is a terminal, or - for standard input and output\nRATE is the rate that the line has: 9600 (the default), 19200, 38400, 57600 or 115200\n",
     );
     voice::say(
         STDERR_FILENO,
@@ -41,7 +41,7 @@ pub fn read() -> Asked {
     if count < 3 || count > 7 {
         return Asked::Bad;
     }
-    let rate = number_or(3, count, 115200);
+    let rate = number_or(3, count, 9600);
     let wish = number_or(4, count, 1024);
     let start = choice(5, count, b"text", b"at-once");
     let same = choice(6, count, b"go-on", b"stop");
