@@ -1,5 +1,7 @@
-// A line that a program speaks on: a terminal, or standard input and output. No contract can speak of an operating system, so these
-// calls are proved to be safe and to end, and what they do is tested.
+// A line that a program speaks on: a terminal, or standard input and output. No contract can speak of what an operating system reads
+// or writes; these say what the answers may be, and what the calls do is tested.
+ghost use lib.ListN.{length};
+ghost use Rattle.cable.specs.Cable.{Opens, Comes};
 use libc::STDIN_FILENO;
 use libc::STDOUT_FILENO;
 
@@ -26,7 +28,9 @@ pub enum Came {
 pub const SILENCE: u32 = 100;
 
 // Opens a terminal by its path; a dash is standard input and output. Where it fails standard error says why.
-pub fn open(path: &[u8]) -> Opened {
+pub fn open(path: &[u8]) -> Opened
+    ensures { λ r. ⌜ Opens r (now (path .entry)) ⌝ }
+{
     if octets::same(path, b"-") {
         return Opened::Line(Cable {
             input: STDIN_FILENO,
@@ -52,7 +56,9 @@ pub fn send(cable: Cable, bytes: &[u8]) -> bool {
 }
 
 // Reads once.
-pub fn listen(cable: Cable, buffer: &mut [u8]) -> Came {
+pub fn listen(cable: Cable, buffer: &mut [u8]) -> Came
+    ensures { λ r. ⌜ Comes r (cable .terminal) (length (now (buffer .entry))) ⌝ }
+{
     let got = libc::read(cable.input, buffer);
     if got < 0 {
         os::fail(b"the line");

@@ -1,0 +1,2 @@
+-- What an opening and a read of a line may answer.
+pub mod Cable

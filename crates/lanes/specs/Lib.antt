@@ -1,0 +1,3 @@
+-- A lane without noise.
+pub mod Lanes
+pub mod LanesLaws
