@@ -181,8 +181,8 @@ impl Session {
         }
     }
 
-    // Whether the numbers of the session could arise.
-    fn can_arise(self) -> bool
+    // Whether the numbers of the session could arise; one whose numbers could not is taken as ended.
+    pub fn can_arise(self) -> bool
         ensures { λ r. ⌜ r ≡ arises self ⌝ }
     {
         let phase = self.phase;

@@ -167,9 +167,12 @@ any-seen : (r : Reader) → Any r → (b : ℕ) → SeenAs (stepOf r b) (sightOf
 unfolding stepOf seenOf
 any-seen r a b = known-seen (knownOf r) (known-of r a) b
 
--- The store keeps its size.
+-- The reader after a step is known: the store keeps its size, and the count is in it.
+pub step-known : (r : Reader) → Any r → (b : ℕ) → Known (stepOf r b .reader)
+step-known r a b = any-seen r a b .known
+
 pub step-size : (r : Reader) → Any r → (b : ℕ) → Any (stepOf r b .reader)
-step-size r a b = any-seen r a b .known .size
+step-size r a b = step-known r a b .size
 
 -- The view of the reader after a step is the view's step.
 pub step-seen : (r : Reader) → Any r → (b : ℕ) → seenOf (stepOf r b .reader) ≡ seenStep (seenOf r) b

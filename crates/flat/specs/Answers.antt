@@ -1,0 +1,26 @@
+-- The answers that are no refusal, by number. A refusal is answered by its own number.
+use Prim.Native.Nat.{ℕ}
+
+abbrev pub nothing : ℕ
+nothing = 0
+
+abbrev pub written : ℕ
+written = 100
+
+abbrev pub frame : ℕ
+frame = 101
+
+abbrev pub dropped : ℕ
+dropped = 102
+
+abbrev pub done : ℕ
+done = 103
+
+abbrev pub found : ℕ
+found = 104
+
+abbrev pub past : ℕ
+past = 105
+
+abbrev pub unknown : ℕ
+unknown = 106

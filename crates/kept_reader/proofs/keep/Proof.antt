@@ -1,0 +1,76 @@
+-- `keep`: the words, then the store behind them.
+use Prim.Native.Nat.{_+_, _≤_}
+use mathlib.Core.List.{[], _∷_}
+use mathlib.Core.Path.{_≡_, refl, sym, ap, _∙_}
+use native.Mathlib.Omega.{arith}
+use lib.ListN.{length}
+use Rattle.octets.specs.Octets.{laid}
+use Rattle.flat.specs.Words.{recorded}
+use Rattle.kept_reader.specs.Kept.{bytesOf}
+use Rattle.kept_reader.specs.KeptLaws.{words-and-store}
+use borrow.Author.Needs.{needs}
+use Rattle.kept_reader.proofs.keep.Statement.{statement}
+use Rattle.kept_reader.proofs.keep.Tie as tie
+use Rattle.kept_reader.proofs.keep.Reads as reads
+use Rattle.kept_reader.proofs.keep.Lts as lts
+use Rattle.flat.proofs.low.Reads as low-reads
+use Rattle.flat.proofs.store.Reads as store-reads
+use Rattle.kept_reader.proofs.flag_of.Reads as flag-of-reads
+use Rattle.octets.proofs.copy.Reads as copy-reads
+
+-- src/lib.rt:80:9
+low-requires : tie.Need-low-requires
+low-requires c κs = search needs
+
+-- src/lib.rt:81:9
+flag-of-requires : tie.Need-flag-of-requires
+flag-of-requires c κs = search needs
+
+-- src/lib.rt:82:9
+flag-of-requires-2 : tie.Need-flag-of-requires-2
+flag-of-requires-2 c κs = search needs
+
+-- src/lib.rt:85:17
+slice-aggregate-store : tie.Need-slice-aggregate-store
+slice-aggregate-store c = search needs
+
+-- src/lib.rt:85:5
+store-requires : tie.Need-store-requires
+store-requires c κs = search needs
+
+-- src/lib.rt:86:18
+slice-aggregate-copy : tie.Need-slice-aggregate-copy
+slice-aggregate-copy c = search needs
+
+-- src/lib.rt:86:5
+copy-requires : tie.Need-copy-requires
+copy-requires c κs = search needs
+
+-- src/lib.rt:75:1
+same-length : tie.Need-same-length
+same-length c = search needs
+
+-- src/lib.rt:75:1
+returns : tie.Need-returns
+unfolding bytesOf
+returns c =
+    let a = c .before .before .before .before .before .before .before .before .before .before .before .before .before .before .before .args in
+    let size : length (a .reader .store) ≡ 1035 = sym (slice-aggregate-copy (c .before .before .before .before)) in
+    c .before .before .copy .ensures
+    ∙ ap (λ d. laid d 12 (a .reader .store)) (c .before .before .before .before .before .before .before .store2 .ensures)
+    ∙ words-and-store _ (a .reader .store) (a .state .now) refl (rw size (c .before .before .before .before .before .before .before .before .before .before .before .before .before .before .before .pre))
+    ∙ rw (c .before .before .before .before .before .before .before .before .before .before .before .before .before .low .ensures, c .before .before .before .before .before .before .before .before .before .before .before .before .flag-of .ensures, c .before .before .before .before .before .before .before .before .before .before .before .flag-of2 .ensures)
+
+pub keep-spec : {M : Type 1} → statement M
+keep-spec =
+    tie.close
+    (tie.spec
+    low-requires
+    flag-of-requires
+    flag-of-requires-2
+    slice-aggregate-store
+    store-requires
+    slice-aggregate-copy
+    copy-requires
+    same-length
+    returns)

@@ -1,0 +1,94 @@
+-- A reader as bytes: three words, count, opened and pending, and behind them the store of 1,035 bytes.
+use Prim.Native.Nat.{ℕ}
+use mathlib.Core.Bool.{Bool, true, false, cond, _&&_}
+use mathlib.Core.List.{List, [], _∷_, _++_}
+use lib.Dec.{eqb, leb, ltb}
+use lib.ListN.{length}
+use Rattle.octets.specs.Octets.{numberAt, partOf, over}
+use Rattle.refusals.specs.Refusals.{noRoom}
+use Rattle.wire.specs.Frame.{longestContent}
+use Rattle.flat.specs.Words.{spelledAll, lowHalf}
+use Rattle.flat.specs.Answers.{nothing, frame, dropped}
+use Rattle.reader.specs.Reader.{fresh, stepOf}
+use Rattle.reader.specs.declared.steps.Reader.{Reader}
+use Rattle.reader.specs.declared.steps.Heard.{Heard}
+use Rattle.reader.specs.declared.steps.Heard.the-variants.{Nothing, Frame, Dropped}
+use Rattle.reader.specs.declared.steps.Stepped.{Stepped}
+
+-- How many bytes a reader takes, and where its store begins.
+abbrev pub readerBytes : ℕ
+readerBytes = 1047
+
+abbrev pub storePlace : ℕ
+storePlace = 12
+
+abbrev pub flag : Bool → ℕ
+flag true = 1
+flag false = 0
+
+-- The bytes of a reader.
+unfoldable pub bytesOf : Reader → List ℕ
+bytesOf r = spelledAll (lowHalf (r .count) ∷ flag (r .opened) ∷ flag (r .pending) ∷ []) ++ r .store
+
+-- Bytes that stand for a reader: a count of at most 1,035 and flags of 0 or 1.
+unfoldable pub stands : List ℕ → Bool
+stands state = leb (numberAt 4 state 0) longestContent && (leb (numberAt 4 state 4) 1 && leb (numberAt 4 state 8) 1)
+
+-- The reader in some bytes; where they stand for none, a fresh one.
+unfoldable pub readerIn : List ℕ → Reader
+readerIn state =
+    cond (stands state)
+    (record {
+      store = partOf state storePlace longestContent;
+      count = numberAt 4 state 0;
+      opened = eqb (numberAt 4 state 4) 1;
+      pending = eqb (numberAt 4 state 8) 1;
+    })
+    fresh
+
+-- What was heard, by number.
+abbrev pub heardNumber : Heard → ℕ
+heardNumber Nothing = nothing
+heardNumber (Frame command n) = frame
+heardNumber Dropped = dropped
+
+abbrev pub heardCommand : Heard → ℕ
+heardCommand Nothing = 0
+heardCommand (Frame command n) = command
+heardCommand Dropped = 0
+
+abbrev pub heardCount : Heard → ℕ
+heardCount Nothing = 0
+heardCount (Frame command n) = n
+heardCount Dropped = 0
+
+-- What a fresh start answers and leaves.
+pub record Begun : Type 0 where
+  pub answer : ℕ
+  pub state : List ℕ
+
+unfoldable pub keptNew : List ℕ → Begun
+keptNew state =
+    cond (ltb (length state) readerBytes) (record { answer = noRoom; state = state })
+    (record { answer = nothing; state = over (bytesOf fresh) state })
+
+-- What a byte answers and leaves.
+pub record Kept : Type 0 where
+  pub answer : ℕ
+  pub command : ℕ
+  pub count : ℕ
+  pub state : List ℕ
+
+abbrev pub keptAfter : Stepped → List ℕ → Kept
+keptAfter s state =
+    record {
+      answer = heardNumber (s .heard);
+      command = heardCommand (s .heard);
+      count = heardCount (s .heard);
+      state = over (bytesOf (s .reader)) state;
+    }
+
+unfoldable pub keptStep : List ℕ → ℕ → Kept
+keptStep state byte =
+    cond (ltb (length state) readerBytes) (record { answer = noRoom; command = 0; count = 0; state = state })
+    (keptAfter (stepOf (readerIn state) byte) state)

@@ -1,0 +1,37 @@
+-- The laws of readers as bytes.
+use Prim.Native.Nat.{ℕ, _+_, _-_, _/_, _≤_}
+use mathlib.Core.List.{List, [], _∷_, _++_, append-nil}
+use mathlib.Core.Path.{_≡_, refl, sym, ap, _∙_}
+use mathlib.Core.Bool.{true, false}
+use native.Mathlib.Omega.{arith}
+use borrow.Author.Tests.{le-ltb}
+use lib.ListN.{length, take, drop, replicate, length-replicate, length-drop, drop-of-length-le}
+use Rattle.octets.specs.Octets.{partOf, laid, over}
+use Rattle.octets.specs.OctetsLaws.{over-laid}
+use Rattle.octets.specs.Choice.{cond-no}
+use Rattle.flat.specs.Words.{spelledAll, recorded}
+use Rattle.flat.specs.WordsLaws.{length-spelled-all}
+use Rattle.reader.specs.declared.steps.Reader.{Reader}
+use Rattle.kept_reader.specs.Kept.{bytesOf}
+
+-- A store that the bytes from its place on are copied into.
+pub store-copied : (state : List ℕ) → 1047 ≤ length state → laid (replicate 1035 0) 0 (drop 12 state) ≡ partOf state 12 1035
+unfolding laid partOf
+store-copied state h =
+    let store : List ℕ = replicate 1035 0 in
+    let rest : List ℕ = drop 12 state in
+    let size : length store ≡ 1035 = length-replicate {A = ℕ} 1035 0 in
+    let none : drop (0 + length rest) store ≡ [] =
+    drop-of-length-le store {i = 0 + length rest} (rw (size, length-drop) (omega arith)) in
+    ap (λ (l : List ℕ). take (length store - 0) rest ++ l) none
+    ∙ append-nil (take (length store - 0) rest)
+    ∙ ap (λ (n : ℕ). take (n - 0) rest) size
+
+-- Three words written at the front and the store behind them.
+pub words-and-store : (ws store state : List ℕ) → length ws ≡ 3 → 12 + length store ≤ length state
+    → laid (recorded ws state) 12 store ≡ over (spelledAll ws ++ store) state
+unfolding recorded
+words-and-store ws store state three room =
+    let size : length (spelledAll ws) ≡ 12 = length-spelled-all ws ∙ rw three in
+    rw (cond-no _ state (over (spelledAll ws) state) (le-ltb (length state / 4) (length ws) (omega (arith, three))))
+    (over-laid (spelledAll ws) state store 12 size room)

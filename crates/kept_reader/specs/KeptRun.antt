@@ -1,0 +1,110 @@
+-- A reader kept as bytes is the same reader.
+use Prim.Native.Nat.{ℕ, _+_, _*_, _%_, _^_, _≤_, _<_}
+use mathlib.Core.Bool.{Bool, true, false, _&&_}
+use mathlib.Core.List.{List, [], _∷_, _++_, map, append-assoc}
+use mathlib.Core.Path.{_≡_, refl, sym, ap, ap₂, _∙_}
+use native.Mathlib.Omega.{arith}
+use borrow.Author.Tests.{le-leb, le-ltb}
+use lib.Dec.{eqb, leb}
+use lib.ListN.{length, take, drop, getD, length-append}
+use lib.Seq.{take-at, drop-at}
+use Rattle.octets.specs.Octets.{numberAt, partOf, over}
+use Rattle.octets.specs.OctetsLaws.{length-over, over-over}
+use Rattle.octets.specs.Choice.{cond-yes, cond-no}
+use Rattle.wire.specs.Frame.{longestContent}
+use Rattle.flat.specs.Words.{spelledAll, lowHalf}
+use Rattle.flat.specs.WordsLaws.{length-spelled-all, word-back}
+use Rattle.reader.specs.Reader.{stepOf}
+use Rattle.reader.specs.SeenLaws.{step-known}
+use Rattle.reader.specs.declared.steps.Reader.{Reader}
+use Rattle.reader.specs.declared.steps.Stepped.{Stepped}
+use Rattle.kept_reader.specs.Kept.{readerBytes, flag, bytesOf, stands, readerIn}
+use Rattle.kept_reader.specs.Kept.{heardNumber, heardCommand, heardCount, Kept, keptAfter, keptStep}
+use Rattle.kept_reader.specs.Promises.{Whole, KeptBack, stepsOf, callsOf, KeptRun}
+
+-- A flag is 0 or 1, and is read as it was.
+flag-low : (b : Bool) → flag b ≤ 1
+flag-low true = omega arith
+flag-low false = omega arith
+
+flag-back : (b : Bool) → eqb (flag b) 1 ≡ b
+flag-back true = refl
+flag-back false = refl
+
+-- The three words of a reader.
+abbrev wordsOf : Reader → List ℕ
+wordsOf r = lowHalf (r .count) ∷ flag (r .opened) ∷ flag (r .pending) ∷ []
+
+module _ (r : Reader) (state : List ℕ) (w : Whole r) (room : readerBytes ≤ length state) where
+  -- What follows the words.
+  behind : List ℕ
+  behind = r .store ++ drop (length (bytesOf r)) state
+
+  bytes-long : length (bytesOf r) ≡ readerBytes
+  unfolding bytesOf
+  bytes-long = length-append (spelledAll (wordsOf r)) (r .store) ∙ rw (length-spelled-all (wordsOf r), w .size)
+
+  front : over (bytesOf r) state ≡ spelledAll (wordsOf r) ++ behind
+  unfolding bytesOf over behind
+  front = append-assoc (spelledAll (wordsOf r)) (r .store) _
+
+  count-same : lowHalf (r .count) ≡ r .count
+  count-same = omega (arith, w .low)
+
+  word : (i : ℕ) → i < 3 → getD (wordsOf r) i 0 < 256 ^ 4 → numberAt 4 (over (bytesOf r) state) (i * 4) ≡ getD (wordsOf r) i 0
+  word i h fits = rw front (word-back (wordsOf r) behind i h fits)
+
+  count-back : numberAt 4 (over (bytesOf r) state) 0 ≡ r .count
+  count-back = word 0 (omega arith) (omega (arith, w .low)) ∙ count-same
+
+  opened-back : numberAt 4 (over (bytesOf r) state) 4 ≡ flag (r .opened)
+  opened-back = word 1 (omega arith) (omega (arith, flag-low (r .opened)))
+
+  pending-back : numberAt 4 (over (bytesOf r) state) 8 ≡ flag (r .pending)
+  pending-back = word 2 (omega arith) (omega (arith, flag-low (r .pending)))
+
+  store-back : partOf (over (bytesOf r) state) 12 longestContent ≡ r .store
+  unfolding partOf behind
+  store-back =
+      let words : drop 12 (over (bytesOf r) state) ≡ behind =
+      ap (drop 12) front ∙ drop-at (spelledAll (wordsOf r)) behind 12 (length-spelled-all (wordsOf r)) in
+      ap (take longestContent) words ∙ take-at (r .store) (drop (length (bytesOf r)) state) longestContent (w .size)
+
+  back : readerIn (over (bytesOf r) state) ≡ r
+  unfolding readerIn stands
+  back =
+      let standing : stands (over (bytesOf r) state) ≡ true =
+      rw (count-back, opened-back, pending-back, le-leb _ _ (w .low), le-leb _ _ (flag-low (r .opened)), le-leb _ _ (flag-low (r .pending))) in
+      cond-yes _ _ _ standing
+      ∙ rw (store-back, count-back, opened-back, pending-back, flag-back (r .opened), flag-back (r .pending))
+
+pub kept-back : KeptBack
+kept-back r state w room = back r state w room
+
+-- The reader after a step is as these calls leave it.
+step-whole : (r : Reader) (b : ℕ) → Whole r → Whole (stepOf r b .reader)
+step-whole r b w = let k = step-known r (w .size) b in record { size = k .size; low = k .low }
+
+-- One call.
+one-call : (r : Reader) (state : List ℕ) (b : ℕ) → Whole r → readerBytes ≤ length state → keptStep (over (bytesOf r) state) b ≡ keptAfter (stepOf r b) state
+unfolding keptStep
+one-call r state b w room =
+    let long : length (over (bytesOf r) state) ≡ length state = length-over (bytesOf r) state (rw (bytes-long r state w room) room) in
+    let next : Whole (stepOf r b .reader) = step-whole r b w in
+    cond-no _ _ _ (le-ltb (length (over (bytesOf r) state)) readerBytes (rw long room))
+    ∙ ap (λ (x : Reader). keptAfter (stepOf x b) (over (bytesOf r) state)) (kept-back r state w room)
+    ∙ ap
+    (λ (l : List ℕ). record {
+      answer = heardNumber (stepOf r b .heard);
+      command = heardCommand (stepOf r b .heard);
+      count = heardCount (stepOf r b .heard);
+      state = l;
+    })
+    (over-over (bytesOf r) (bytesOf (stepOf r b .reader)) state (rw (bytes-long r state w room, bytes-long (stepOf r b .reader) state next room) (omega arith)))
+
+pub kept-run : KeptRun
+unfolding stepsOf callsOf
+kept-run r state [] w room = refl
+kept-run r state (b ∷ bs) w room =
+    rw (one-call r state b w room)
+    (ap (λ (l : List Kept). keptAfter (stepOf r b) state ∷ l) (kept-run (stepOf r b .reader) state bs (step-whole r b w) room))

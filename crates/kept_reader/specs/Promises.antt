@@ -1,0 +1,36 @@
+-- What a reader that is kept as bytes promises: it answers as the reader itself does.
+use Prim.Native.Nat.{ℕ, _≤_}
+use mathlib.Core.List.{List, [], _∷_, map}
+use mathlib.Core.Path.{_≡_}
+use lib.ListN.{length}
+use Rattle.octets.specs.Octets.{over}
+use Rattle.wire.specs.Frame.{longestContent}
+use Rattle.reader.specs.Reader.{stepOf}
+use Rattle.reader.specs.declared.steps.Reader.{Reader}
+use Rattle.reader.specs.declared.steps.Stepped.{Stepped}
+use Rattle.kept_reader.specs.Kept.{readerBytes, bytesOf, readerIn, Kept, keptAfter, keptStep}
+
+-- A reader as these calls leave it: its store has 1,035 bytes, and its count is in it.
+pub record Whole (r : Reader) : Type 0 where
+  pub size : length (r .store) ≡ longestContent
+  pub low : r .count ≤ longestContent
+
+-- Its bytes are read as the same reader again, whatever follows them in the buffer.
+abbrev pub KeptBack : Type 0
+KeptBack = (r : Reader) (state : List ℕ) → Whole r → readerBytes ≤ length state → readerIn (over (bytesOf r) state) ≡ r
+
+-- The steps of a reader over some bytes.
+unfoldable pub stepsOf : Reader → List ℕ → List Stepped
+stepsOf r [] = []
+stepsOf r (b ∷ bs) = stepOf r b ∷ stepsOf (stepOf r b .reader) bs
+
+-- The same by calls that hand the buffer from one to the next.
+unfoldable pub callsOf : List ℕ → List ℕ → List Kept
+callsOf state [] = []
+callsOf state (b ∷ bs) = keptStep state b ∷ callsOf (keptStep state b .state) bs
+
+-- Over any bytes each call answers what the reader's own step does, and leaves its bytes at the front of the buffer, all else as lent.
+abbrev pub KeptRun : Type 0
+KeptRun =
+    (r : Reader) (state bytes : List ℕ) → Whole r → readerBytes ≤ length state
+    → callsOf (over (bytesOf r) state) bytes ≡ map (λ (s : Stepped). keptAfter s state) (stepsOf r bytes)
