@@ -10,6 +10,7 @@
 #ifndef ZRNKOBAL_H
 #define ZRNKOBAL_H
 
+#include <stdbool.h>
 #include <stddef.h>
 #include <stdint.h>
 
@@ -64,14 +65,11 @@ size_t zrn_words(uint8_t number, uint8_t *out, size_t out_length);
 /* Writes a frame. ZRN_WRITTEN and its count; 1 for a payload over 1,030; 2 where the output is shorter than the frame needs. */
 uint8_t zrn_frame_write(uint8_t command, const uint8_t *payload, size_t payload_length, uint8_t *out, size_t out_length, size_t *count);
 
-/* 1 where these bytes are the content of a frame that a reader hands out, else 0. */
-uint8_t zrn_frame_is_content(const uint8_t *content, size_t content_length);
+/* Whether these bytes are the content of a frame that a reader hands out. */
+bool zrn_frame_is_content(const uint8_t *content, size_t content_length);
 
-/* The escape: whether a byte of content is escaped (1 or 0); the byte that then follows DC: CB for DB, CC for DC, else CE; whether a byte
- * may follow DC (1 or 0); the byte of content that it then stands for: DB for CB, DC for CC, else DE. */
-uint8_t zrn_escape_is_mark(uint8_t byte);
-uint8_t zrn_escape_second(uint8_t byte);
-uint8_t zrn_escape_may_follow(uint8_t byte);
+/* The escape: whether a byte may follow DC, and the byte of content that it then stands for: DB for CB, DC for CC, else DE. */
+bool zrn_escape_may_follow(uint8_t byte);
 uint8_t zrn_escape_original(uint8_t byte);
 
 /* ---- The reader */
@@ -117,8 +115,8 @@ uint8_t zrn_ubf_write(uint16_t type, uint32_t address, uint32_t start, const uin
  * ZRN_MODULE_BYTES. */
 uint8_t zrn_module_open(uint8_t *state, size_t state_length, const uint8_t *flash, size_t flash_length);
 
-/* 1 where the session takes events, else 0. */
-uint8_t zrn_module_is_open(const uint8_t *state, size_t state_length);
+/* Whether the session takes events. */
+bool zrn_module_is_open(const uint8_t *state, size_t state_length);
 
 /* A frame has arrived. ZRN_WRITTEN and the count of the reply, or ZRN_NOTHING; 2 for a reply buffer under 64 bytes; 3 for a flash of
  * another length than at the opening. A refusal leaves state, flash and reply as lent. */
