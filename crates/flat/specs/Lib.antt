@@ -2,3 +2,4 @@
 pub mod Answers
 pub mod Words
 pub mod WordsLaws
+pub mod Found

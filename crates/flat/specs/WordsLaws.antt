@@ -4,10 +4,10 @@ use mathlib.Core.List.{List, [], _∷_, _++_, append-assoc, append-nil}
 use mathlib.Core.Path.{_≡_, refl, sym, ap, _∙_}
 use native.Mathlib.Omega.{arith}
 use native.Mathlib.Numerals.{add-one}
-use lib.ListN.{length, take, drop, getD, length-append}
-use lib.Seq.{take-suc, take-at, drop-append-add, length-take-le}
+use lib.ListN.{length, take, getD, length-append}
+use lib.Seq.{take-suc, length-take-le}
 use Rattle.octets.specs.Octets.{spelled, little, numberAt, laid, over}
-use Rattle.octets.specs.OctetsLaws.{length-spelled, little-spelled, number-step, over-laid, length-over}
+use Rattle.octets.specs.OctetsLaws.{length-spelled, number-step, over-laid, length-over}
 use Rattle.flat.specs.Words.{spelledAll}
 
 pub length-spelled-all : (ws : List ℕ) → length (spelledAll ws) ≡ 4 * length ws
@@ -53,17 +53,3 @@ pub length-words : (ws state : List ℕ) (i : ℕ) → i ≤ length ws → lengt
 length-words ws state i h room =
     length-over (spelledAll (take i ws)) state
     (rw (length-spelled-all (take i ws), length-take-le i ws h) (omega arith))
-
--- A word is found again in a record that it was spelled in, whatever follows.
-pub word-back : (ws rest : List ℕ) (i : ℕ) → i < length ws → getD ws i 0 < 256 ^ 4 → numberAt 4 (spelledAll ws ++ rest) (i * 4) ≡ getD ws i 0
-unfolding spelledAll numberAt
-word-back [] rest i h fits = absurd (omega arith)
-word-back (w ∷ ws) rest zero h fits =
-    let here : take 4 ((spelled 4 w ++ spelledAll ws) ++ rest) ≡ spelled 4 w =
-    rw append-assoc (take-at (spelled 4 w) (spelledAll ws ++ rest) 4 (length-spelled 4 w)) in
-    ap little here ∙ little-spelled 4 w fits
-word-back (w ∷ ws) rest (suc i) h fits =
-    let split : suc i * 4 ≡ 4 + i * 4 = omega arith in
-    let next : drop (suc i * 4) ((spelled 4 w ++ spelledAll ws) ++ rest) ≡ drop (i * 4) (spelledAll ws ++ rest) =
-    rw (append-assoc, split) (rw (length-spelled 4 w) at (drop-append-add (spelled 4 w) (spelledAll ws ++ rest) (i * 4))) in
-    ap (λ (l : List ℕ). little (take 4 l)) next ∙ word-back ws rest i (omega arith) fits

@@ -1,19 +1,20 @@
 -- A reader kept as bytes is the same reader.
-use Prim.Native.Nat.{ℕ, _+_, _*_, _%_, _^_, _≤_, _<_}
+use Prim.Native.Nat.{ℕ, _≤_}
 use mathlib.Core.Bool.{Bool, true, false, _&&_}
 use mathlib.Core.List.{List, [], _∷_, _++_, map, append-assoc}
 use mathlib.Core.Path.{_≡_, refl, sym, ap, ap₂, _∙_}
 use native.Mathlib.Omega.{arith}
 use borrow.Author.Tests.{le-leb, le-ltb}
 use lib.Dec.{eqb, leb}
-use lib.ListN.{length, take, drop, getD, length-append}
+use lib.ListN.{length, take, drop, length-append}
 use lib.Seq.{take-at, drop-at}
 use Rattle.octets.specs.Octets.{numberAt, partOf, over}
 use Rattle.octets.specs.OctetsLaws.{length-over, over-over}
 use Rattle.octets.specs.Choice.{cond-yes, cond-no}
 use Rattle.wire.specs.Frame.{longestContent}
 use Rattle.flat.specs.Words.{spelledAll, lowHalf}
-use Rattle.flat.specs.WordsLaws.{length-spelled-all, word-back}
+use Rattle.flat.specs.WordsLaws.{length-spelled-all}
+use Rattle.flat.specs.Found.{ReadAt, read-all}
 use Rattle.reader.specs.Reader.{stepOf}
 use Rattle.reader.specs.SeenLaws.{step-known}
 use Rattle.reader.specs.declared.steps.Reader.{Reader}
@@ -48,20 +49,21 @@ module _ (r : Reader) (state : List ℕ) (w : Whole r) (room : readerBytes ≤ l
   unfolding bytesOf over behind
   front = append-assoc (spelledAll (wordsOf r)) (r .store) _
 
-  count-same : lowHalf (r .count) ≡ r .count
-  count-same = omega (arith, w .low)
-
-  word : (i : ℕ) → i < 3 → getD (wordsOf r) i 0 < 256 ^ 4 → numberAt 4 (over (bytesOf r) state) (i * 4) ≡ getD (wordsOf r) i 0
-  word i h fits = rw front (word-back (wordsOf r) behind i h fits)
+  -- The words are read again.
+  words-back : ReadAt (over (bytesOf r) state) 0 (wordsOf r)
+  words-back =
+      read-all (wordsOf r) (over (bytesOf r) state) behind 0
+      (omega (arith, w .low), (omega (arith, flag-low (r .opened)), (omega (arith, flag-low (r .pending)), tt)))
+      front
 
   count-back : numberAt 4 (over (bytesOf r) state) 0 ≡ r .count
-  count-back = word 0 (omega arith) (omega (arith, w .low)) ∙ count-same
+  count-back = omega (arith, words-back .0, w .low)
 
   opened-back : numberAt 4 (over (bytesOf r) state) 4 ≡ flag (r .opened)
-  opened-back = word 1 (omega arith) (omega (arith, flag-low (r .opened)))
+  opened-back = words-back .1 .0
 
   pending-back : numberAt 4 (over (bytesOf r) state) 8 ≡ flag (r .pending)
-  pending-back = word 2 (omega arith) (omega (arith, flag-low (r .pending)))
+  pending-back = words-back .1 .1 .0
 
   store-back : partOf (over (bytesOf r) state) 12 longestContent ≡ r .store
   unfolding partOf behind

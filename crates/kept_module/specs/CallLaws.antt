@@ -1,0 +1,72 @@
+-- The calls, put together from what each callee answers.
+use Prim.Native.Nat.{ℕ, _≤_}
+use mathlib.Core.Bool.{Bool, cond}
+use mathlib.Core.List.{List}
+use mathlib.Core.Path.{_≡_, refl, _∙_}
+use native.Mathlib.Omega.{arith}
+use borrow.Author.Tests.{le-ltb}
+use lib.ListN.{length}
+use Rattle.octets.specs.Octets.{sameBytes, partOf}
+use Rattle.octets.specs.OctetsLaws.{over-all}
+use Rattle.flat.specs.Words.{spelledAll, recorded, standsFor}
+use Rattle.flat.specs.WordsLaws.{length-spelled-all}
+use Rattle.module.specs.Session.{openingOf}
+use Rattle.module.specs.Step.{Left, stepOf}
+use Rattle.module.specs.Runs.{countIn}
+use Rattle.module.specs.declared.session.Phase.{Phase}
+use Rattle.module.specs.declared.session.Phase.the-variants.{Closed, Ready, Begun, Loading, Done}
+use Rattle.module.specs.declared.session.Session.{Session}
+use Rattle.module.specs.declared.session.Stepped.{Stepped}
+use Rattle.module.specs.declared.session.Event.{Event}
+use Rattle.kept_module.specs.Kept.{recordBytes, wordsBy, wordsOf, fieldsIn, stands, sessionBy, sessionIn, keptOf, answerNumber, kept, keptStep, opened, keptOpening}
+
+-- A record has nine words.
+pub nine-words : (s : Session) → length (wordsOf s) ≡ 9
+unfolding wordsOf
+nine-words s = go (s .phase)
+  where
+    go : (phase : Phase) → length (wordsBy (s .flash) (s .idle) phase) ≡ 9
+    go Closed = refl
+    go Ready = refl
+    go (Begun t) = refl
+    go (Loading p number written) = refl
+    go (Done p written) = refl
+
+-- It has 36 bytes.
+pub record-size : (s : Session) → length (spelledAll (wordsOf s)) ≡ recordBytes
+record-size s = length-spelled-all (wordsOf s) ∙ rw (nine-words s)
+
+-- The record written over 36 bytes is all of them.
+pub recorded-alone : (s : Session) (bytes : List ℕ) → length bytes ≡ recordBytes → recorded (wordsOf s) bytes ≡ spelledAll (wordsOf s)
+unfolding recorded
+recorded-alone s bytes e =
+    rw (nine-words s, e) (over-all (spelledAll (wordsOf s)) bytes (omega (arith, record-size s, e)))
+
+-- Compared with as many bytes, it tells whether these are the record.
+pub stands-by : (s : Session) (st bytes : List ℕ) → length bytes ≡ recordBytes
+    → sameBytes (recorded (wordsOf s) bytes) (partOf st 0 recordBytes) ≡ standsFor (wordsOf s) st
+unfolding standsFor
+stands-by s st bytes e = rw (recorded-alone s bytes e, record-size s)
+
+-- The session read.
+pub session-by : (st : List ℕ) (fields s : Session) (genuine : Bool) → fields ≡ fieldsIn st → genuine ≡ standsFor (wordsOf fields) st
+    → s ≡ sessionBy genuine fields → s ≡ sessionIn st
+unfolding sessionIn stands
+session-by st fields s genuine f g e = rw (e, g, f)
+
+-- A step.
+pub step-by : (st payload flash reply after : List ℕ) (event : Event) (fields s : Session) (genuine : Bool) (l : Left) (number count : ℕ)
+    → fields ≡ fieldsIn st → genuine ≡ standsFor (wordsOf fields) st → s ≡ sessionBy genuine fields
+    → l ≡ stepOf s event payload flash reply → after ≡ cond genuine (recorded (wordsOf (l .session)) st) st
+    → number ≡ answerNumber (l .answer) → count ≡ countIn (l .answer)
+    → kept number count after (l .flash) (l .reply) ≡ keptStep st event payload flash reply
+unfolding keptStep sessionIn keptOf stands
+step-by st payload flash reply after event fields s genuine l number count f g e step k n m = rw (k, n, m, step, e, g, f)
+
+-- An opening.
+pub opening-by : (st flash after ws : List ℕ) (first : Stepped) (number : ℕ) → recordBytes ≤ length st → first ≡ openingOf flash
+    → ws ≡ wordsOf (first .session) → after ≡ recorded ws st → number ≡ answerNumber (first .answer)
+    → opened number after ≡ keptOpening st flash
+unfolding keptOpening
+opening-by st flash after ws first number room e w k n =
+    rw (k, w, n, e, le-ltb (length st) recordBytes room)

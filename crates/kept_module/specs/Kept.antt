@@ -1,0 +1,134 @@
+-- A module's session kept as bytes: its record, how it is read again, and the step over it.
+use Prim.Native.Nat.{ℕ}
+use mathlib.Core.Bool.{Bool, cond}
+use mathlib.Core.List.{List, [], _∷_}
+use lib.Dec.{eqb, ltb}
+use lib.ListN.{length}
+use Rattle.octets.specs.Octets.{numberAt}
+use Rattle.refusals.specs.Refusals.{noRoom}
+use Rattle.kinds.specs.Kinds.{kindOf, numberOf}
+use Rattle.kinds.specs.declared.Kind.{Kind}
+use Rattle.kinds.specs.declared.Kind.the-variants.{Navigation}
+use Rattle.kinds.specs.declared.Known.{Known}
+use Rattle.kinds.specs.declared.Known.the-variants.{Is, Unknown}
+use Rattle.module.specs.Session.{session, openingOf}
+use Rattle.module.specs.Step.{Left, stepOf}
+use Rattle.module.specs.Runs.{countIn}
+use Rattle.module.specs.declared.session.Transfer.{Transfer}
+use Rattle.module.specs.declared.session.Pieces.{Pieces}
+use Rattle.module.specs.declared.session.Phase.{Phase}
+use Rattle.module.specs.declared.session.Phase.the-variants.{Closed, Ready, Begun, Loading, Done}
+use Rattle.module.specs.declared.session.Session.{Session}
+use Rattle.module.specs.declared.session.Event.{Event}
+use Rattle.module.specs.declared.session.Answer.{Answer}
+use Rattle.module.specs.declared.session.Answer.the-variants.{Nothing, Sent, Refused}
+use Rattle.flat.specs.Answers.{nothing, written}
+use Rattle.flat.specs.Words.{recorded, standsFor, lowHalf, highHalf}
+
+-- ---- the record
+
+-- The nine words of a record, by name.
+abbrev pub rowOf : ℕ → ℕ → ℕ → ℕ → ℕ → ℕ → ℕ → ℕ → List ℕ
+rowOf flash idle phase kind length size number written =
+    lowHalf flash ∷ highHalf flash ∷ idle ∷ phase ∷ kind ∷ lowHalf length ∷ lowHalf size ∷ lowHalf number ∷ lowHalf written ∷ []
+
+-- The words of a session by its phase, 0 closed to 4 done; what a phase does not have is 0.
+abbrev pub wordsBy : ℕ → ℕ → Phase → List ℕ
+wordsBy flash idle Closed = rowOf flash idle 0 0 0 0 0 0
+wordsBy flash idle Ready = rowOf flash idle 1 0 0 0 0 0
+wordsBy flash idle (Begun t) = rowOf flash idle 2 (numberOf (t .kind)) (t .length) 0 0 0
+wordsBy flash idle (Loading p number written) =
+    rowOf flash idle 3 (numberOf (p .transfer .kind)) (p .transfer .length) (p .size) number written
+wordsBy flash idle (Done p written) = rowOf flash idle 4 (numberOf (p .transfer .kind)) (p .transfer .length) (p .size) 0 written
+
+unfoldable pub wordsOf : Session → List ℕ
+wordsOf s = wordsBy (s .flash) (s .idle) (s .phase)
+
+-- The bytes of a record.
+abbrev pub recordBytes : ℕ
+recordBytes = 36
+
+-- ---- reading it
+
+-- The kind of a type number; one that is none reads as the first, and its record then is another.
+abbrev pub kindBy : Known → Kind
+kindBy (Is k) = k
+kindBy Unknown = Navigation
+
+abbrev pub kindIn : List ℕ → Kind
+kindIn st = kindBy (kindOf (numberAt 2 st 16))
+
+abbrev pub transferIn : List ℕ → Transfer
+transferIn st = record { kind = kindIn st; length = numberAt 4 st 20 }
+
+abbrev pub piecesIn : List ℕ → Pieces
+piecesIn st = record { transfer = transferIn st; size = numberAt 4 st 24 }
+
+-- The phase whose numbers stand in the bytes.
+unfoldable pub phaseIn : List ℕ → Phase
+phaseIn st =
+    cond (eqb (numberAt 4 st 12) 1) Ready
+    (cond (eqb (numberAt 4 st 12) 2) (Begun (transferIn st))
+    (cond (eqb (numberAt 4 st 12) 3) (Loading (piecesIn st) (numberAt 4 st 28) (numberAt 4 st 32))
+    (cond (eqb (numberAt 4 st 12) 4) (Done (piecesIn st) (numberAt 4 st 32)) Closed)))
+
+-- The session whose numbers stand in the bytes.
+abbrev pub fieldsIn : List ℕ → Session
+fieldsIn st = session (numberAt 8 st 0) (numberAt 4 st 8) (phaseIn st)
+
+-- The bytes are the record of a session.
+unfoldable pub stands : List ℕ → Bool
+stands st = standsFor (wordsOf (fieldsIn st)) st
+
+-- The session in some bytes; in the record of none a closed session over the flash length that stands there.
+abbrev pub sessionBy : Bool → Session → Session
+sessionBy genuine s = cond genuine s (session (s .flash) 0 Closed)
+
+unfoldable pub sessionIn : List ℕ → Session
+sessionIn st = sessionBy (stands st) (fieldsIn st)
+
+-- ---- the calls
+
+-- Some bytes once their session has become another: those that are the record of none are left as they are.
+unfoldable pub keptOf : List ℕ → Session → List ℕ
+keptOf st s = cond (stands st) (recorded (wordsOf s) st) st
+
+-- What an answer says as a number: nothing, written, or the refusal itself.
+abbrev pub answerNumber : Answer → ℕ
+answerNumber Nothing = nothing
+answerNumber (Sent n) = written
+answerNumber (Refused k) = k
+
+-- All that a call leaves.
+pub record Kept : Type 0 where
+  pub answer : ℕ
+  pub count : ℕ
+  pub state : List ℕ
+  pub flash : List ℕ
+  pub reply : List ℕ
+
+abbrev pub kept : ℕ → ℕ → List ℕ → List ℕ → List ℕ → Kept
+kept answer count state flash reply = record { answer = answer; count = count; state = state; flash = flash; reply = reply }
+
+-- What a step leaves, with the session in these bytes.
+abbrev pub keptAs : List ℕ → Left → Kept
+keptAs st l = kept (answerNumber (l .answer)) (countIn (l .answer)) st (l .flash) (l .reply)
+
+-- One event given to the session in some bytes.
+unfoldable pub keptStep : List ℕ → Event → List ℕ → List ℕ → List ℕ → Kept
+keptStep st event payload flash reply =
+    let l = stepOf (sessionIn st) event payload flash reply in keptAs (keptOf st (l .session)) l
+
+-- What an opening leaves.
+pub record Opened : Type 0 where
+  pub answer : ℕ
+  pub state : List ℕ
+
+abbrev pub opened : ℕ → List ℕ → Opened
+opened answer state = record { answer = answer; state = state }
+
+-- An opening: 2, and nothing is written, where the record has no room.
+unfoldable pub keptOpening : List ℕ → List ℕ → Opened
+keptOpening st flash =
+    cond (ltb (length st) recordBytes) (opened noRoom st)
+    (opened (answerNumber (openingOf flash .answer)) (recorded (wordsOf (openingOf flash .session)) st))

@@ -1,0 +1,9 @@
+// The module's session for callers that keep it as bytes: a record of nine words of four bytes at the front of a buffer.
+mod calls;
+mod reading;
+mod writing;
+
+pub use calls::frame;
+pub use calls::is_open;
+pub use calls::open;
+pub use calls::wait;

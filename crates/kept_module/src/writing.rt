@@ -1,0 +1,108 @@
+// A session as the words of its record, and whether some bytes are that record.
+ghost use mathlib.Core.Path.{_≡_};
+ghost use mathlib.Core.Bool.{cond};
+ghost use Rattle.kinds.specs.Kinds.{numberOf};
+ghost use Rattle.flat.specs.Words.{recorded, standsFor};
+ghost use Rattle.kept_module.specs.Kept.{rowOf, wordsOf};
+use kinds::Kind;
+use module::Phase;
+use module::Session;
+
+// The nine words of a session.
+pub(crate) fn words_of(session: Session) -> [u32; 9]
+    ensures { λ r. ⌜ r ≡ wordsOf session ⌝ }
+{
+    let flash = session.flash;
+    let idle = session.idle;
+    let phase = session.phase;
+    match phase {
+        Phase::Closed => row(flash, idle, 0, 0, 0, 0, 0, 0),
+        Phase::Ready => row(flash, idle, 1, 0, 0, 0, 0, 0),
+        Phase::Begun(transfer) => {
+            let kind = transfer.kind;
+            row(flash, idle, 2, type_of(kind), transfer.length, 0, 0, 0)
+        }
+        Phase::Loading {
+            pieces,
+            number,
+            written,
+        } => {
+            let transfer = pieces.transfer;
+            let kind = transfer.kind;
+            row(
+                flash,
+                idle,
+                3,
+                type_of(kind),
+                transfer.length,
+                pieces.size,
+                number,
+                written,
+            )
+        }
+        Phase::Done { pieces, written } => {
+            let transfer = pieces.transfer;
+            let kind = transfer.kind;
+            row(
+                flash,
+                idle,
+                4,
+                type_of(kind),
+                transfer.length,
+                pieces.size,
+                0,
+                written,
+            )
+        }
+    }
+}
+
+fn row(
+    flash: usize,
+    idle: u32,
+    phase: u32,
+    kind: u32,
+    length: usize,
+    size: usize,
+    number: usize,
+    written: usize,
+) -> [u32; 9]
+    ensures { λ r. ⌜ r ≡ rowOf flash idle phase kind length size number written ⌝ }
+{
+    [
+        flat::low(flash),
+        flat::high(flash),
+        idle,
+        phase,
+        kind,
+        flat::low(length),
+        flat::low(size),
+        flat::low(number),
+        flat::low(written),
+    ]
+}
+
+// The type number of a kind.
+fn type_of(kind: Kind) -> u32
+    ensures { λ r. ⌜ r ≡ numberOf kind ⌝ }
+{
+    kinds::number_of(kind) as u32
+}
+
+// Whether the front of the bytes is the record of a session.
+pub(crate) fn stands(session: Session, state: &[u8]) -> bool
+    ensures { λ r. ⌜ r ≡ standsFor (wordsOf session) (now (state .entry)) ⌝ }
+{
+    let mut bytes = [0u8; 36];
+    flat::store(&words_of(session), &mut bytes);
+    octets::same(&bytes, octets::part(state, 0, 36))
+}
+
+// Writes a session over the record in the bytes, if there was one.
+pub(crate) fn keep(genuine: bool, session: Session, state: &mut [u8])
+    ensures { λ _. ⌜ now (state .exit) ≡ cond genuine (recorded (wordsOf session) (now (state .entry))) (now (state .entry)) ⌝ }
+{
+    if genuine {
+        flat::store(&words_of(session), state);
+    }
+}
