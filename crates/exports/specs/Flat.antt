@@ -49,7 +49,7 @@ withoutBlock answer place count = record {
   start = 0;
   check = 0;
   place = place;
-  count = count
+  count = count;
 }
 
 -- A block at its place.
@@ -61,7 +61,7 @@ withBlock b place = record {
   start = b .start;
   check = b .check;
   place = place;
-  count = 0
+  count = 0;
 }
 
 -- One block: its numbers, or the refusal number.
@@ -83,7 +83,7 @@ pub found-nowhere : (f : Found) → record {
   start = foundFlat f .start;
   check = foundFlat f .check;
   place = 0;
-  count = 0
+  count = 0;
 } ≡ foundFlat f
 found-nowhere (block.Whole b) = refl
 found-nowhere (block.Refused number) = refl

@@ -78,14 +78,14 @@ pub extern "C" fn zrn_ubf_read(
     check: &mut u32,
 ) -> u8
     ensures { λ r. ⌜ record {
-            answer = r;
-            kind = now (kind .exit);
-            length = now (length .exit);
-            start = now (start .exit);
-            check = now (check .exit);
-            place = 0;
-            count = 0
-        } ≡ foundFlat (blockOf (now (block .entry))) ⌝ }
+      answer = r;
+      kind = now (kind .exit);
+      length = now (length .exit);
+      start = now (start .exit);
+      check = now (check .exit);
+      place = 0;
+      count = 0;
+    } ≡ foundFlat (blockOf (now (block .entry))) ⌝ }
 {
     let found = numbers_in(ubf::read(block));
     *kind = found.kind;
@@ -116,14 +116,14 @@ pub extern "C" fn zrn_ubf_block_at(
     count: &mut usize,
 ) -> u8
     ensures { λ r. ⌜ record {
-            answer = r;
-            kind = now (kind .exit);
-            length = now (length .exit);
-            start = now (start .exit);
-            check = now (check .exit);
-            place = now (place .exit);
-            count = now (count .exit)
-        } ≡ nthFlat (blockAt n (now (file .entry))) ⌝ }
+      answer = r;
+      kind = now (kind .exit);
+      length = now (length .exit);
+      start = now (start .exit);
+      check = now (check .exit);
+      place = now (place .exit);
+      count = now (count .exit);
+    } ≡ nthFlat (blockAt n (now (file .entry))) ⌝ }
 {
     let nth = numbers_of(ubf::block_at(file, n));
     *kind = nth.kind;

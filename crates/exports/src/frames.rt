@@ -15,7 +15,12 @@ pub extern "C" fn zrn_words(number: u8, out: &mut [u8]) -> usize
 }
 
 #[no_mangle]
-pub extern "C" fn zrn_frame_write(command: u8, payload: &[u8], out: &mut [u8], count: &mut usize) -> u8
+pub extern "C" fn zrn_frame_write(
+    command: u8,
+    payload: &[u8],
+    out: &mut [u8],
+    count: &mut usize,
+) -> u8
     ensures { λ r. ⌜ record { answer = r; count = now (count .exit); output = now (out .exit) }
         ≡ writtenFlat (writeOf (record { command = command; payload = now (payload .entry) }) (now (out .entry))) ⌝ }
 {

@@ -13,7 +13,12 @@ pub extern "C" fn zrn_reader_new(state: &mut [u8]) -> u8
 }
 
 #[no_mangle]
-pub extern "C" fn zrn_reader_step(state: &mut [u8], byte: u8, command: &mut u8, count: &mut usize) -> u8
+pub extern "C" fn zrn_reader_step(
+    state: &mut [u8],
+    byte: u8,
+    command: &mut u8,
+    count: &mut usize,
+) -> u8
     ensures { λ r. ⌜ record { answer = r; command = now (command .exit); count = now (count .exit); state = now (state .exit) }
         ≡ keptStep (now (state .entry)) byte ⌝ }
 {

@@ -1,5 +1,5 @@
 -- Words that a record spells, found in it again.
-use Prim.Native.Nat.{ℕ, _+_, _/_, _≤_, _<_}
+use Prim.Native.Nat.{ℕ, _+_, _*_, _/_, _≤_, _<_}
 use mathlib.Core.Bool.{true}
 use mathlib.Core.List.{List, [], _∷_, _++_, append-assoc}
 use mathlib.Core.Path.{_≡_, refl, ap, _∙_}
@@ -9,7 +9,7 @@ use lib.Dec.{ltb}
 use lib.ListN.{length, take, drop, take-append-drop}
 use lib.Seq.{take-at, drop-at, drop-drop}
 use Rattle.octets.specs.Octets.{spelled, numberAt, partOf, over}
-use Rattle.octets.specs.OctetsLaws.{length-spelled, number-four, same-refl, same-true, take-over, over-over, length-over}
+use Rattle.octets.specs.OctetsLaws.{length-spelled, number-four, same-refl, same-true, take-over, over-over, over-all, length-over}
 use Rattle.octets.specs.Choice.{either-way}
 use Rattle.octets.specs.PartLaws.{number-of-part}
 use Rattle.flat.specs.Words.{spelledAll, recorded, standsFor, lowHalf, highHalf}
@@ -57,6 +57,11 @@ module _ (ws st : List ℕ) (room : length ws ≤ length st / 4) where
   pub recorded-stands : standsFor ws (recorded ws st) ≡ true
   unfolding standsFor partOf
   recorded-stands = rw (recorded-over, take-over (spelledAll ws) st (length (spelledAll ws)) refl) (same-refl (spelledAll ws))
+
+-- In bytes just as long the record is all.
+pub recorded-alone : (ws st : List ℕ) → length st ≡ 4 * length ws → recorded ws st ≡ spelledAll ws
+recorded-alone ws st e =
+    recorded-over ws st (omega (arith, e)) ∙ over-all (spelledAll ws) st (rw (length-spelled-all ws) (omega (arith, e)))
 
 -- A record of as many words covers the one before.
 pub recorded-again : (ws vs st : List ℕ) → length ws ≡ length vs → length ws ≤ length st / 4

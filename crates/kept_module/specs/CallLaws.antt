@@ -7,9 +7,9 @@ use native.Mathlib.Omega.{arith}
 use borrow.Author.Tests.{le-ltb}
 use lib.ListN.{length}
 use Rattle.octets.specs.Octets.{sameBytes, partOf}
-use Rattle.octets.specs.OctetsLaws.{over-all}
 use Rattle.flat.specs.Words.{spelledAll, recorded, standsFor}
 use Rattle.flat.specs.WordsLaws.{length-spelled-all}
+use Rattle.flat.specs.Found.{recorded-alone}
 use Rattle.module.specs.Session.{openingOf}
 use Rattle.module.specs.Step.{Left, stepOf}
 use Rattle.module.specs.Runs.{countIn}
@@ -36,17 +36,11 @@ nine-words s = go (s .phase)
 pub record-size : (s : Session) → length (spelledAll (wordsOf s)) ≡ recordBytes
 record-size s = length-spelled-all (wordsOf s) ∙ rw (nine-words s)
 
--- The record written over 36 bytes is all of them.
-pub recorded-alone : (s : Session) (bytes : List ℕ) → length bytes ≡ recordBytes → recorded (wordsOf s) bytes ≡ spelledAll (wordsOf s)
-unfolding recorded
-recorded-alone s bytes e =
-    rw (nine-words s, e) (over-all (spelledAll (wordsOf s)) bytes (omega (arith, record-size s, e)))
-
 -- Compared with as many bytes, it tells whether these are the record.
 pub stands-by : (s : Session) (st bytes : List ℕ) → length bytes ≡ recordBytes
     → sameBytes (recorded (wordsOf s) bytes) (partOf st 0 recordBytes) ≡ standsFor (wordsOf s) st
 unfolding standsFor
-stands-by s st bytes e = rw (recorded-alone s bytes e, record-size s)
+stands-by s st bytes e = rw (recorded-alone (wordsOf s) bytes (e ∙ rw (nine-words s)), record-size s)
 
 -- The session read.
 pub session-by : (st : List ℕ) (fields s : Session) (genuine : Bool) → fields ≡ fieldsIn st → genuine ≡ standsFor (wordsOf fields) st

@@ -1,3 +1,4 @@
 -- A board that waits for the start text, and a host's end that counts.
 pub mod Post
 pub mod Caller
+pub mod View

@@ -1,4 +1,7 @@
 // How a load ended, and the words for it.
+ghost use mathlib.Core.Path.{_≡_};
+ghost use Rattle.host.specs.Runs.{countIn};
+ghost use Rattle.posts.specs.View.{begunOf, overOf, endingOf};
 use console::voice;
 use host::Answer;
 
@@ -10,7 +13,9 @@ pub struct Ending {
 }
 
 // A load under way.
-pub fn begun() -> Ending {
+pub fn begun() -> Ending
+    ensures { λ r. ⌜ r ≡ begunOf ⌝ }
+{
     Ending {
         over: false,
         number: 0,
@@ -19,7 +24,9 @@ pub fn begun() -> Ending {
 }
 
 // What an answer of the host says of the end.
-pub fn ended_by(answer: Answer) -> Ending {
+pub fn ended_by(answer: Answer) -> Ending
+    ensures { λ r. ⌜ r ≡ endingOf answer ⌝ }
+{
     match answer {
         Answer::Nothing => begun(),
         Answer::Sent(_) => begun(),
@@ -34,7 +41,9 @@ pub fn ended_by(answer: Answer) -> Ending {
 }
 
 // How many bytes an answer says are to be sent.
-pub fn said(answer: Answer) -> usize {
+pub fn said(answer: Answer) -> usize
+    ensures { λ r. ⌜ r ≡ countIn answer ⌝ }
+{
     match answer {
         Answer::Nothing => 0,
         Answer::Sent(n) => n,
@@ -48,7 +57,9 @@ pub fn said(answer: Answer) -> usize {
     }
 }
 
-fn over(number: u8, passed: u8) -> Ending {
+fn over(number: u8, passed: u8) -> Ending
+    ensures { λ r. ⌜ r ≡ overOf number passed ⌝ }
+{
     Ending {
         over: true,
         number: number,

@@ -1,4 +1,6 @@
 // What a person, or a file of the flash, needs to know of a post, as plain numbers.
+ghost use mathlib.Core.Path.{_≡_};
+ghost use Rattle.posts.specs.View.{bareOf, seenOf, cutOf, phaseView, viewOf, idleOf};
 use crate::post::Post;
 use kinds::Kind;
 use module::Phase;
@@ -15,7 +17,9 @@ pub struct View {
     pub written: usize,
 }
 
-pub fn view_of(post: Post) -> View {
+pub fn view_of(post: Post) -> View
+    ensures { λ r. ⌜ r ≡ viewOf post ⌝ }
+{
     let board = post.board;
     let session = board.session;
     if !session.is_open() {
@@ -25,7 +29,9 @@ pub fn view_of(post: Post) -> View {
     phase_view(phase)
 }
 
-fn phase_view(phase: Phase) -> View {
+fn phase_view(phase: Phase) -> View
+    ensures { λ r. ⌜ r ≡ phaseView phase ⌝ }
+{
     match phase {
         Phase::Closed => bare(0),
         Phase::Ready => bare(1),
@@ -39,7 +45,9 @@ fn phase_view(phase: Phase) -> View {
     }
 }
 
-fn bare(stand: u8) -> View {
+fn bare(stand: u8) -> View
+    ensures { λ r. ⌜ r ≡ bareOf stand ⌝ }
+{
     View {
         stand: stand,
         kind: Kind::Navigation,
@@ -49,12 +57,16 @@ fn bare(stand: u8) -> View {
     }
 }
 
-fn cut(stand: u8, pieces: Pieces, written: usize) -> View {
+fn cut(stand: u8, pieces: Pieces, written: usize) -> View
+    ensures { λ r. ⌜ r ≡ cutOf stand pieces written ⌝ }
+{
     let transfer = pieces.transfer;
     seen(stand, transfer, written)
 }
 
-fn seen(stand: u8, transfer: Transfer, written: usize) -> View {
+fn seen(stand: u8, transfer: Transfer, written: usize) -> View
+    ensures { λ r. ⌜ r ≡ seenOf stand transfer written ⌝ }
+{
     let kind = transfer.kind;
     View {
         stand: stand,
@@ -66,7 +78,9 @@ fn seen(stand: u8, transfer: Transfer, written: usize) -> View {
 }
 
 // Whether a closed session was closed by its idle sum, and not by a restart.
-pub fn is_idle(post: Post) -> bool {
+pub fn is_idle(post: Post) -> bool
+    ensures { λ r. ⌜ r ≡ idleOf post ⌝ }
+{
     let board = post.board;
     let session = board.session;
     session.idle > 7000

@@ -1,0 +1,93 @@
+// The host's session, kept by its caller as bytes.
+ghost use mathlib.Core.List.{[]};
+ghost use mathlib.Core.Path.{_≡_};
+ghost use lib.ListN.{length};
+ghost use Rattle.host.specs.Session.{progressOf, phaseProgress, phaseRate, phaseRepeats};
+ghost use Rattle.host.specs.declared.session.Event.the-variants as Event;
+ghost use Rattle.kept_host.specs.Kept.{sessionIn, lineNumber, opened, keptOpening, kept, keptStep};
+
+#[no_mangle]
+pub extern "C" fn zrn_host_open(
+    state: &mut [u8],
+    kind: u16,
+    image: &[u8],
+    first: u8,
+    wish: usize,
+    start: u8,
+    same: u8,
+    out: &mut [u8],
+    count: &mut usize,
+) -> u8
+    ensures { λ r. ⌜ opened r (now (count .exit)) (now (state .exit)) (now (out .exit))
+        ≡ keptOpening (now (state .entry)) kind first wish start same (now (image .entry)) (now (out .entry)) ⌝ }
+{
+    kept_host::open(state, kind, image, first, wish, start, same, out, count)
+}
+
+#[no_mangle]
+pub extern "C" fn zrn_host_frame(
+    state: &mut [u8],
+    command: u8,
+    payload: &[u8],
+    image: &[u8],
+    out: &mut [u8],
+    count: &mut usize,
+    passed: &mut u8,
+) -> u8
+    ensures { λ r. ⌜ kept r (now (count .exit)) (now (passed .exit)) (now (state .exit)) (now (out .exit))
+        ≡ keptStep (now (state .entry)) (Event.Frame command (length (now (payload .entry)))) (now (payload .entry)) (now (image .entry)) (now (out .entry)) ⌝ }
+{
+    kept_host::frame(state, command, payload, image, out, count, passed)
+}
+
+#[no_mangle]
+pub extern "C" fn zrn_host_line(
+    state: &mut [u8],
+    line: &[u8],
+    image: &[u8],
+    out: &mut [u8],
+    count: &mut usize,
+    passed: &mut u8,
+) -> u8
+    ensures { λ r. ⌜ kept r (now (count .exit)) (now (passed .exit)) (now (state .exit)) (now (out .exit))
+        ≡ keptStep (now (state .entry)) (Event.Line (length (now (line .entry)))) (now (line .entry)) (now (image .entry)) (now (out .entry)) ⌝ }
+{
+    kept_host::line(state, line, image, out, count, passed)
+}
+
+#[no_mangle]
+pub extern "C" fn zrn_host_wait(
+    state: &mut [u8],
+    ms: u32,
+    image: &[u8],
+    out: &mut [u8],
+    count: &mut usize,
+    passed: &mut u8,
+) -> u8
+    ensures { λ r. ⌜ kept r (now (count .exit)) (now (passed .exit)) (now (state .exit)) (now (out .exit))
+        ≡ keptStep (now (state .entry)) (Event.Elapsed ms) [] (now (image .entry)) (now (out .entry)) ⌝ }
+{
+    kept_host::wait(state, ms, image, out, count, passed)
+}
+
+#[no_mangle]
+pub extern "C" fn zrn_host_progress(state: &[u8], total: &mut usize) -> usize
+    ensures { λ r. ⌜ progressOf r (now (total .exit))
+        ≡ phaseProgress (sessionIn (now (state .entry)) .phase) (sessionIn (now (state .entry)) .image) ⌝ }
+{
+    kept_host::progress(state, total)
+}
+
+#[no_mangle]
+pub extern "C" fn zrn_host_line_rate(state: &[u8]) -> u8
+    ensures { λ r. ⌜ r ≡ lineNumber (phaseRate (sessionIn (now (state .entry)) .phase)) ⌝ }
+{
+    kept_host::line_rate(state)
+}
+
+#[no_mangle]
+pub extern "C" fn zrn_host_resent(state: &[u8]) -> u32
+    ensures { λ r. ⌜ r ≡ phaseRepeats (sessionIn (now (state .entry)) .phase) ⌝ }
+{
+    kept_host::resent(state)
+}

@@ -1,0 +1,194 @@
+-- A session is read as it was written.
+use Prim.Native.Nat.{ℕ, _+_, _*_, _/_, _%_, _^_, _≤_, _<_}
+use mathlib.Core.Bool.{Bool, true, _&&_}
+use mathlib.Core.List.{List}
+use mathlib.Core.Path.{_≡_, refl, sym, ap, ap₂, _∙_}
+use native.Mathlib.Omega.{arith}
+use lib.ListN.{length, getD}
+use Rattle.octets.specs.Choice.{cond-yes}
+use Rattle.octets.specs.Octets.{little, spelled, numberAt, over}
+use Rattle.octets.specs.OctetsLaws.{little-spelled}
+use Rattle.kinds.specs.Kinds.{kindOf, numberOf}
+use Rattle.kinds.specs.KindsLaws.{kind-of-number, kind-spelled}
+use Rattle.kinds.specs.declared.Known.{Known}
+use Rattle.kinds.specs.declared.Known.the-variants.{Is}
+use Rattle.flat.specs.Words.{lowHalf, highHalf, spelledAll, recorded, standsFor}
+use Rattle.flat.specs.WordsLaws.{number-eight}
+use Rattle.flat.specs.Found.{recorded-over, recorded-stands}
+use Rattle.stages.specs.Stages.{numberOfRate, stageFits}
+use Rattle.stages.specs.StagesLaws.{sending-facts, sent-facts}
+use Rattle.stages.specs.declared.plan.Rate.{Rate}
+use Rattle.stages.specs.declared.plan.Rate.the-variants.{R9600, R19200, R38400, R57600, R115200}
+use Rattle.stages.specs.declared.plan.Start.{Start}
+use Rattle.stages.specs.declared.plan.Start.the-variants.{WithText, AtOnce}
+use Rattle.stages.specs.declared.plan.Same.{Same}
+use Rattle.stages.specs.declared.plan.Same.the-variants.{GoOn, Stop}
+use Rattle.stages.specs.declared.plan.Plan.{Plan}
+use Rattle.stages.specs.declared.plan.Stage.{Stage}
+use Rattle.stages.specs.declared.plan.Stage.the-variants.{Text, Asking, Declaring, Sending, Noticing, Restarting}
+use Rattle.host.specs.Session.{session, wait, limitOf, arises}
+use Rattle.host.specs.SessionLaws.{WaitOf}
+use Rattle.host.specs.Arises.{arises-wait, limit-within}
+use Rattle.host.specs.declared.session.Wait.{Wait}
+use Rattle.host.specs.declared.session.Phase.{Phase}
+use Rattle.host.specs.declared.session.Phase.the-variants.{Ended, Waiting}
+use Rattle.host.specs.declared.session.Session.{Session}
+use Rattle.kept_host.specs.Kept.{startNumber, sameNumber, stageWords, waitWords, endedWords, wordsOf}
+use Rattle.kept_host.specs.Kept.{rateIn, startIn, sameIn, stageOf, stageIn, planIn, phaseIn, fieldsIn, stands, sessionIn}
+use Rattle.kept_host.specs.KeptLaws.{words-count}
+use Rattle.kept_host.specs.Promises.{wishIn, Real, KeptBack}
+use Rattle.kept_host.specs.declared.words.Staged.{Staged}
+
+-- ---- each number
+
+-- A number of eight bytes is its two halves.
+halves : (x : ℕ) → x < 2 ^ 64 → lowHalf x + 4294967296 * highHalf x ≡ x
+halves x h = omega (arith, h)
+
+rate-back : (r : Rate) → rateIn (numberOfRate r % 256) ≡ r
+unfolding rateIn
+rate-back R9600 = refl
+rate-back R19200 = refl
+rate-back R38400 = refl
+rate-back R57600 = refl
+rate-back R115200 = refl
+
+start-back : (s : Start) → startIn (startNumber s % 256) ≡ s
+unfolding startIn
+start-back WithText = refl
+start-back AtOnce = refl
+
+same-back : (s : Same) → sameIn (sameNumber s % 256) ≡ s
+unfolding sameIn
+same-back GoOn = refl
+same-back Stop = refl
+
+-- A stage that fits has a size and a number that a word holds.
+stage-back : (plan : Plan) (image : ℕ) (stage : Stage) → stageFits plan image stage ≡ true
+    → stageOf (stageWords stage .stage % 256) (rateIn (stageWords stage .rate % 256)) (stageWords stage .size) (stageWords stage .number) ≡ stage
+unfolding stageOf
+stage-back plan image Text h = refl
+stage-back plan image (Asking rate) h = ap Asking (rate-back rate)
+stage-back plan image (Declaring rate) h = ap Declaring (rate-back rate)
+stage-back plan image (Sending rate size number) h =
+    let s = sending-facts plan image rate size number h in
+    let small : lowHalf size ≡ size = omega (arith, s .cut .small) in
+    let few : lowHalf number ≡ number = omega (arith, s .this .most, s .cut .carried) in
+    rw (rate-back rate, small, few)
+stage-back plan image (Noticing rate size) h =
+    let small : lowHalf size ≡ size = omega (arith, sent-facts plan image rate size h .cut .small) in
+    rw (rate-back rate, small)
+stage-back plan image (Restarting rate size) h =
+    let small : lowHalf size ≡ size = omega (arith, sent-facts plan image rate size h .cut .small) in
+    rw (rate-back rate, small)
+
+-- ---- a session that waits, in bytes with its record at the front
+
+abbrev written : ℕ → Staged → Wait → List ℕ → List ℕ
+written image s w st = over (spelledAll (waitWords image s w)) st
+
+module _ (image : ℕ) (s : Staged) (w : Wait) (st : List ℕ) where
+  image-at : numberAt 8 (written image s w st) 0 ≡ lowHalf image + 4294967296 * highHalf image
+  unfolding numberAt spelledAll spelled over
+  image-at =
+      number-eight (written image s w st) 0
+      ∙ ap₂ (λ (x y : ℕ). x + 4294967296 * y)
+      (little-spelled 4 (lowHalf image) (omega arith)) (little-spelled 4 (highHalf image) (omega arith))
+
+  wish-at : numberAt 8 (written image s w st) 8 ≡ lowHalf (w .plan .wish) + 4294967296 * highHalf (w .plan .wish)
+  unfolding numberAt spelledAll spelled over
+  wish-at =
+      number-eight (written image s w st) 8
+      ∙ ap₂ (λ (x y : ℕ). x + 4294967296 * y)
+      (little-spelled 4 (lowHalf (w .plan .wish)) (omega arith)) (little-spelled 4 (highHalf (w .plan .wish)) (omega arith))
+
+  kind-at : kindOf (numberAt 2 (written image s w st) 20) ≡ Is (w .plan .kind)
+  unfolding numberAt spelledAll spelled over
+  kind-at =
+      ap kindOf (little-spelled 2 (numberOf (w .plan .kind)) (kind-spelled (w .plan .kind) .0)) ∙ kind-of-number (w .plan .kind)
+
+  plan-at : w .plan .wish < 2 ^ 64 → planIn (w .plan .kind) (written image s w st) ≡ w .plan
+  unfolding planIn spelledAll spelled over
+  plan-at h =
+      rw (
+        rate-back (w .plan .first),
+        start-back (w .plan .start),
+        same-back (w .plan .same),
+        wish-at,
+        halves (w .plan .wish) h,
+      )
+
+  stage-at : s .size < 2 ^ 32 → s .number < 2 ^ 32
+      → stageIn (written image s w st) ≡ stageOf (s .stage % 256) (rateIn (s .rate % 256)) (s .size) (s .number)
+  unfolding stageIn numberAt spelledAll spelled over
+  stage-at h k =
+      ap₂ (stageOf (s .stage % 256) (rateIn (s .rate % 256))) (little-spelled 4 (s .size) h) (little-spelled 4 (s .number) k)
+
+  times-at : w .waited < 2 ^ 32 → w .repeats < 2 ^ 32
+      → (numberAt 4 (written image s w st) 48 ≡ w .waited) × (numberAt 4 (written image s w st) 52 ≡ w .repeats)
+  unfolding numberAt spelledAll spelled over
+  times-at h k = (little-spelled 4 (w .waited) h, little-spelled 4 (w .repeats) k)
+
+-- The words of a stage's size and number fit.
+stage-words : (stage : Stage) → (stageWords stage .size < 2 ^ 32) × (stageWords stage .number < 2 ^ 32)
+stage-words Text = omega arith
+stage-words (Asking rate) = omega arith
+stage-words (Declaring rate) = omega arith
+stage-words (Sending rate size number) = omega arith
+stage-words (Noticing rate size) = omega arith
+stage-words (Restarting rate size) = omega arith
+
+-- All of it.
+wait-back : (image : ℕ) (w : Wait) (st : List ℕ) → WaitOf image w → image < 2 ^ 64 → w .plan .wish < 2 ^ 64
+    → fieldsIn (written image (stageWords (w .stage)) w st) ≡ session image (Waiting w)
+unfolding fieldsIn
+wait-back image w st f short wish =
+    let s : Staged = stageWords (w .stage) in
+    let words = stage-words (w .stage) in
+    let times = times-at image s w st (omega (arith, f .short, limit-within (w .stage))) (omega (arith, f .few)) in
+    let staged : stageIn (written image s w st) ≡ w .stage =
+    stage-at image s w st (words .0) (words .1) ∙ stage-back (w .plan) image (w .stage) (f .staged) in
+    ap₂ session (image-at image s w st ∙ halves image short)
+    (ap (λ (k : Known). phaseIn k (written image s w st)) (kind-at image s w st)
+    ∙ rw (plan-at image s w st wish, staged, times .0, times .1))
+
+-- ---- one that has ended
+
+ended-back : (image : ℕ) (st : List ℕ) → image < 2 ^ 64 → fieldsIn (over (spelledAll (endedWords image)) st) ≡ session image Ended
+unfolding fieldsIn kindOf numberAt little spelledAll spelled over
+ended-back image st short =
+    let all : List ℕ = over (spelledAll (endedWords image)) st in
+    let read : numberAt 8 all 0 ≡ lowHalf image + 4294967296 * highHalf image =
+    number-eight all 0
+    ∙ ap₂ (λ (x y : ℕ). x + 4294967296 * y)
+    (little-spelled 4 (lowHalf image) (omega arith)) (little-spelled 4 (highHalf image) (omega arith)) in
+    ap₂ session (read ∙ halves image short) refl
+
+-- ---- any
+
+phase-back : (image : ℕ) (phase : Phase) (st : List ℕ) → arises (session image phase) ≡ true → image < 2 ^ 64 → wishIn phase < 2 ^ 64
+    → fieldsIn (over (spelledAll (wordsOf (session image phase))) st) ≡ session image phase
+unfolding wordsOf
+phase-back image Ended st a short wish = ended-back image st short
+phase-back image (Waiting w) st a short wish = wait-back image w st (arises-wait image w a) short wish
+
+module _ (s : Session) (st : List ℕ) (a : arises s ≡ true) (r : Real s) (room : 56 ≤ length st) where
+  enough : 4 * length (wordsOf s) ≤ length st
+  enough = rw (words-count s) room
+
+  fields-back : fieldsIn (recorded (wordsOf s) st) ≡ s
+  fields-back =
+      ap fieldsIn (recorded-over (wordsOf s) st (omega (arith, enough))) ∙ phase-back (s .image) (s .phase) st a (r .image-real) (r .wish-real)
+
+  stands-back : stands (recorded (wordsOf s) st) ≡ true
+  unfolding stands
+  stands-back =
+      ap (λ (x : Session). standsFor (wordsOf x) (recorded (wordsOf s) st) && arises x) fields-back
+      ∙ rw (recorded-stands (wordsOf s) st (omega (arith, enough))) a
+
+  session-back : sessionIn (recorded (wordsOf s) st) ≡ s
+  unfolding sessionIn
+  session-back = cond-yes _ _ _ stands-back ∙ fields-back
+
+pub kept-back : KeptBack
+kept-back s st a r room = (stands-back s st a r room, session-back s st a r room)

@@ -1,0 +1,219 @@
+-- A host's session kept as bytes: its record, how bytes are read again, and what a call with them leaves.
+use Prim.Native.Nat.{ℕ}
+use mathlib.Core.Bool.{Bool, true, false, cond, _&&_}
+use mathlib.Core.List.{List, [], _∷_}
+use lib.Dec.{eqb, leb, ltb}
+use lib.ListN.{length, getD}
+use Rattle.octets.specs.Octets.{numberAt}
+use Rattle.refusals.specs.Refusals.{noRoom}
+use Rattle.kinds.specs.Kinds.{kindOf, numberOf}
+use Rattle.kinds.specs.declared.Kind.{Kind}
+use Rattle.kinds.specs.declared.Known.{Known}
+use Rattle.kinds.specs.declared.Known.the-variants.{Is, Unknown}
+use Rattle.flat.specs.Answers.{nothing, written, done, unknown}
+use Rattle.flat.specs.Words.{lowHalf, highHalf, recorded, standsFor}
+use Rattle.stages.specs.Stages.{numberOfRate}
+use Rattle.stages.specs.declared.plan.Rate.{Rate}
+use Rattle.stages.specs.declared.plan.Rate.the-variants.{R9600, R19200, R38400, R57600, R115200}
+use Rattle.stages.specs.declared.plan.Start.{Start}
+use Rattle.stages.specs.declared.plan.Start.the-variants.{WithText, AtOnce}
+use Rattle.stages.specs.declared.plan.Same.{Same}
+use Rattle.stages.specs.declared.plan.Same.the-variants.{GoOn, Stop}
+use Rattle.stages.specs.declared.plan.Plan.{Plan}
+use Rattle.stages.specs.declared.plan.Stage.{Stage}
+use Rattle.stages.specs.declared.plan.Stage.the-variants.{Text, Asking, Declaring, Sending, Noticing, Restarting}
+use Rattle.host.specs.Session.{session, wait, stepped, arises}
+use Rattle.host.specs.Step.{Left, left, Wishes, stepOf, endedOf, openingOf}
+use Rattle.host.specs.Runs.{countIn}
+use Rattle.host.specs.declared.session.Wait.{Wait}
+use Rattle.host.specs.declared.session.Phase.{Phase}
+use Rattle.host.specs.declared.session.Phase.the-variants.{Ended, Waiting}
+use Rattle.host.specs.declared.session.Session.{Session}
+use Rattle.host.specs.declared.session.Event.{Event}
+use Rattle.host.specs.declared.session.Answer.{Answer}
+use Rattle.host.specs.declared.session.Answer.the-variants.{Nothing, Sent, Done, Refused, Failed}
+use Rattle.host.specs.declared.session.LineRate.{LineRate}
+use Rattle.host.specs.declared.session.LineRate.the-variants.{AsItWas, Agreed}
+use Rattle.kept_host.specs.declared.words.Staged.{Staged}
+use Rattle.kept_host.specs.declared.answers.Told.{Told}
+
+-- ---- the record of a session
+
+-- What the start text and the same version are in a record: 1 with text, 1 go on.
+abbrev pub startNumber : Start → ℕ
+startNumber WithText = 1
+startNumber AtOnce = 0
+
+abbrev pub sameNumber : Same → ℕ
+sameNumber GoOn = 1
+sameNumber Stop = 0
+
+abbrev pub stageAt : ℕ → Rate → ℕ → ℕ → Staged
+stageAt stage rate size number =
+    record { stage = stage; rate = numberOfRate rate; size = lowHalf size; number = lowHalf number }
+
+-- The four words of a stage; what it does not have is 0.
+abbrev pub stageWords : Stage → Staged
+stageWords Text = record { stage = 1; rate = 0; size = 0; number = 0 }
+stageWords (Asking rate) = stageAt 2 rate 0 0
+stageWords (Declaring rate) = stageAt 3 rate 0 0
+stageWords (Sending rate size number) = stageAt 4 rate size number
+stageWords (Noticing rate size) = stageAt 5 rate size 0
+stageWords (Restarting rate size) = stageAt 6 rate size 0
+
+-- The fourteen words of a session that waits.
+abbrev pub waitWords : ℕ → Staged → Wait → List ℕ
+waitWords image s w =
+    lowHalf image ∷ highHalf image ∷ lowHalf (w .plan .wish) ∷ highHalf (w .plan .wish)
+    ∷ s .stage ∷ numberOf (w .plan .kind) ∷ numberOfRate (w .plan .first) ∷ s .rate
+    ∷ startNumber (w .plan .start) ∷ sameNumber (w .plan .same)
+    ∷ s .size ∷ s .number ∷ w .waited ∷ w .repeats ∷ []
+
+-- The words of an ended one: its image length, and zeros.
+abbrev pub endedWords : ℕ → List ℕ
+endedWords image = lowHalf image ∷ highHalf image ∷ 0 ∷ 0 ∷ 0 ∷ 0 ∷ 0 ∷ 0 ∷ 0 ∷ 0 ∷ 0 ∷ 0 ∷ 0 ∷ 0 ∷ []
+
+abbrev pub phaseWords : ℕ → Phase → List ℕ
+phaseWords image Ended = endedWords image
+phaseWords image (Waiting w) = waitWords image (stageWords (w .stage)) w
+
+-- The words of a session.
+unfoldable pub wordsOf : Session → List ℕ
+wordsOf s = phaseWords (s .image) (s .phase)
+
+-- ---- a session read from bytes
+
+-- The rate of a number; any other than 2 to 5 is read as 9600.
+unfoldable pub rateIn : ℕ → Rate
+rateIn n = cond (eqb n 2) R19200 (cond (eqb n 3) R38400 (cond (eqb n 4) R57600 (cond (eqb n 5) R115200 R9600)))
+
+-- 1 is with text and to go on, any other at once and to stop.
+unfoldable pub startIn : ℕ → Start
+startIn n = cond (eqb n 1) WithText AtOnce
+
+unfoldable pub sameIn : ℕ → Same
+sameIn n = cond (eqb n 1) GoOn Stop
+
+-- The stage of a number; any other than 1 to 5 is read as the restart.
+unfoldable pub stageOf : ℕ → Rate → ℕ → ℕ → Stage
+stageOf n rate size number =
+    cond (eqb n 1) Text
+    (cond (eqb n 2) (Asking rate)
+    (cond (eqb n 3) (Declaring rate)
+    (cond (eqb n 4) (Sending rate size number) (cond (eqb n 5) (Noticing rate size) (Restarting rate size)))))
+
+-- The stage and the plan at their places.
+unfoldable pub stageIn : List ℕ → Stage
+stageIn st = stageOf (getD st 16 0) (rateIn (getD st 28 0)) (numberAt 4 st 40) (numberAt 4 st 44)
+
+unfoldable pub planIn : Kind → List ℕ → Plan
+planIn kind st =
+    record {
+      kind = kind;
+      first = rateIn (getD st 24 0);
+      wish = numberAt 8 st 8;
+      start = startIn (getD st 32 0);
+      same = sameIn (getD st 36 0);
+    }
+
+-- A type that is not known is read as a session that has ended.
+abbrev pub phaseIn : Known → List ℕ → Phase
+phaseIn (Is kind) st = Waiting (wait (planIn kind st) (stageIn st) (numberAt 4 st 48) (numberAt 4 st 52))
+phaseIn Unknown st = Ended
+
+-- The session that the numbers of some bytes say.
+unfoldable pub fieldsIn : List ℕ → Session
+fieldsIn st = session (numberAt 8 st 0) (phaseIn (kindOf (numberAt 2 st 20)) st)
+
+-- The bytes begin with the record of that session, and it could arise.
+unfoldable pub stands : List ℕ → Bool
+stands st = standsFor (wordsOf (fieldsIn st)) st && arises (fieldsIn st)
+
+-- The session that bytes keep; any others keep an ended one over the image length that is in them.
+unfoldable pub sessionIn : List ℕ → Session
+sessionIn st = cond (stands st) (fieldsIn st) (endedOf (numberAt 8 st 0))
+
+-- The bytes with another session kept in them; those that keep none are left as they are.
+unfoldable pub keptOf : List ℕ → Session → List ℕ
+keptOf st s = cond (stands st) (recorded (wordsOf s) st) st
+
+-- ---- answers by number
+
+-- Nothing 0, sent 100, done 103, a refusal its own number.
+abbrev pub answerNumber : Answer → ℕ
+answerNumber Nothing = nothing
+answerNumber (Sent n) = written
+answerNumber Done = done
+answerNumber (Refused number) = number
+answerNumber (Failed number passed n) = number
+
+-- The module's byte that is passed on.
+abbrev pub answerPassed : Answer → ℕ
+answerPassed Nothing = 0
+answerPassed (Sent n) = 0
+answerPassed Done = 0
+answerPassed (Refused number) = 0
+answerPassed (Failed number passed n) = passed
+
+abbrev pub toldOf : Answer → Told
+toldOf a = record { number = answerNumber a; count = countIn a; passed = answerPassed a }
+
+-- The rate of the line by its number, 0 as it was.
+abbrev pub lineNumber : LineRate → ℕ
+lineNumber AsItWas = 0
+lineNumber (Agreed rate) = numberOfRate rate
+
+-- ---- what a call leaves
+
+-- All that an event leaves: the answer's number, the count to send, the byte passed on, the kept bytes, the output.
+pub record Kept : Type 0 where
+  pub answer : ℕ
+  pub count : ℕ
+  pub passed : ℕ
+  pub state : List ℕ
+  pub output : List ℕ
+
+abbrev pub kept : ℕ → ℕ → ℕ → List ℕ → List ℕ → Kept
+kept answer count passed state output =
+    record { answer = answer; count = count; passed = passed; state = state; output = output }
+
+-- What a step of the session leaves, with the bytes that then keep it.
+abbrev pub keptAs : Left → List ℕ → Kept
+keptAs l state = kept (answerNumber (l .answer)) (countIn (l .answer)) (answerPassed (l .answer)) state (l .output)
+
+-- An event: the session's own step, from the session kept to the one kept after it.
+unfoldable pub keptStep : List ℕ → Event → List ℕ → List ℕ → List ℕ → Kept
+keptStep st event bytes image output =
+    keptAs (stepOf (sessionIn st) event bytes image output) (keptOf st (stepOf (sessionIn st) event bytes image output .session))
+
+-- All that an opening leaves; it passes no byte on.
+pub record Opened : Type 0 where
+  pub answer : ℕ
+  pub count : ℕ
+  pub state : List ℕ
+  pub output : List ℕ
+
+abbrev pub opened : ℕ → ℕ → List ℕ → List ℕ → Opened
+opened answer count state output = record { answer = answer; count = count; state = state; output = output }
+
+-- A session opened over some bytes: its answer, and its record.
+abbrev pub openedAs : Left → List ℕ → Opened
+openedAs l st = opened (answerNumber (l .answer)) (countIn (l .answer)) (recorded (wordsOf (l .session)) st) (l .output)
+
+-- A rate is 1 to 5, start and same are 0 or 1.
+unfoldable pub wishesKnown : ℕ → ℕ → ℕ → Bool
+wishesKnown first start same = leb 1 first && (leb first 5 && (leb start 1 && leb same 1))
+
+abbrev pub wishesIn : ℕ → ℕ → ℕ → ℕ → Wishes
+wishesIn first wish start same = record { first = rateIn first; wish = wish; start = startIn start; same = sameIn same }
+
+-- An opening by numbers: 106 and an ended session for a rate, start or same that is none.
+unfoldable pub openingBy : ℕ → ℕ → ℕ → ℕ → ℕ → List ℕ → List ℕ → Left
+openingBy number first wish start same image output =
+    cond (wishesKnown first start same) (openingOf number (wishesIn first wish start same) image output)
+    (left (stepped (endedOf (length image)) (Refused unknown)) output)
+
+-- 2 and nothing written for bytes without room; else the opening, and its session's record.
+unfoldable pub keptOpening : List ℕ → ℕ → ℕ → ℕ → ℕ → ℕ → List ℕ → List ℕ → Opened
+keptOpening st number first wish start same image output =
+    cond (ltb (length st) 56) (opened noRoom 0 st output) (openedAs (openingBy number first wish start same image output) st)

@@ -1,0 +1,65 @@
+-- The laws of Kept that the contracts lean on: how long a record is, and what a call puts together.
+use Prim.Native.Nat.{ℕ, _*_}
+use mathlib.Core.Bool.{Bool, true, false}
+use mathlib.Core.List.{List}
+use mathlib.Core.Path.{_≡_, refl, sym, ap, _∙_}
+use native.Mathlib.Omega.{arith}
+use lib.ListN.{length}
+use Rattle.octets.specs.Octets.{sameBytes, partOf}
+use Rattle.flat.specs.Words.{spelledAll, recorded, standsFor}
+use Rattle.flat.specs.WordsLaws.{length-spelled-all}
+use Rattle.flat.specs.Found.{recorded-alone}
+use Rattle.host.specs.Session.{session}
+use Rattle.host.specs.Step.{Left, left, stepOf}
+use Rattle.host.specs.declared.session.Phase.{Phase}
+use Rattle.host.specs.declared.session.Phase.the-variants.{Ended, Waiting}
+use Rattle.host.specs.declared.session.Session.{Session}
+use Rattle.host.specs.declared.session.Event.{Event}
+use Rattle.host.specs.declared.session.Stepped.{Stepped}
+use Rattle.kept_host.specs.Kept.{wordsOf, phaseWords, fieldsIn, sessionIn, keptOf, toldOf, kept, keptAs, keptStep, opened, openedAs}
+use Rattle.kept_host.specs.declared.answers.Told.{Told}
+
+-- ---- the record
+
+-- A session has fourteen words.
+phase-count : (image : ℕ) (phase : Phase) → length (phaseWords image phase) ≡ 14
+phase-count image Ended = refl
+phase-count image (Waiting w) = refl
+
+pub words-count : (s : Session) → length (wordsOf s) ≡ 14
+unfolding wordsOf
+words-count s = phase-count (s .image) (s .phase)
+
+-- The record of the session read, written alone and compared with the front of the bytes, tells whether it stands there.
+pub compared : (st own after front : List ℕ) (s : Session) (same : Bool) → s ≡ fieldsIn st → length own ≡ 56
+    → after ≡ recorded (wordsOf s) own → front ≡ partOf st 0 56 → same ≡ sameBytes after front
+    → same ≡ standsFor (wordsOf (fieldsIn st)) st
+unfolding standsFor
+compared st own after front s same read e writes part compares =
+    let size : length (spelledAll (wordsOf s)) ≡ 56 = length-spelled-all (wordsOf s) ∙ rw (words-count s) in
+    let all : after ≡ spelledAll (wordsOf s) = writes ∙ recorded-alone (wordsOf s) own (e ∙ rw (words-count s)) in
+    compares
+    ∙ rw (all, part)
+    (ap (λ (n : ℕ). sameBytes (spelledAll (wordsOf s)) (partOf st 0 n)) (sym size)
+    ∙ ap (λ (x : Session). standsFor (wordsOf x) st) read)
+
+-- ---- the calls
+
+-- The session read, its step, the next session kept and the answer told are a step of the bytes.
+pub step-kept : (st : List ℕ) (event : Event) (bytes image output : List ℕ) (s : Session) (r : Stepped) (out state : List ℕ) (t : Told)
+    → s ≡ sessionIn st → left r out ≡ stepOf s event bytes image output → state ≡ keptOf st (r .session) → t ≡ toldOf (r .answer)
+    → kept (t .number) (t .count) (t .passed) state out ≡ keptStep st event bytes image output
+unfolding keptStep
+step-kept st event bytes image output s r out state t read step keeps says =
+    ap (λ (x : Told). kept (x .number) (x .count) (x .passed) state out) says
+    ∙ ap (keptAs (left r out)) keeps
+    ∙ ap (λ (l : Left). keptAs l (keptOf st (l .session))) (step ∙ ap (λ (x : Session). stepOf x event bytes image output) read)
+
+-- So are an opening, its session's record and its answer.
+pub open-kept : (st : List ℕ) (l : Left) (r : Stepped) (out state : List ℕ) (t : Told)
+    → left r out ≡ l → state ≡ recorded (wordsOf (r .session)) st → t ≡ toldOf (r .answer)
+    → opened (t .number) (t .count) state out ≡ openedAs l st
+open-kept st l r out state t opening keeps says =
+    ap (λ (x : Told). opened (x .number) (x .count) state out) says
+    ∙ ap (λ (x : List ℕ). opened (toldOf (r .answer) .number) (toldOf (r .answer) .count) x out) keeps
+    ∙ ap (λ (x : Left). openedAs x st) opening

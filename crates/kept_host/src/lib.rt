@@ -1,0 +1,15 @@
+// A host's session for callers that keep it as bytes: fourteen words of four bytes each, read and written again at each call.
+mod answers;
+mod calls;
+mod fields;
+mod kept;
+mod opening;
+mod words;
+
+pub use calls::frame;
+pub use calls::line;
+pub use calls::line_rate;
+pub use calls::progress;
+pub use calls::resent;
+pub use calls::wait;
+pub use opening::open;

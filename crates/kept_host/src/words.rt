@@ -1,0 +1,121 @@
+// The fourteen words of a session.
+ghost use mathlib.Core.Path.{_≡_};
+ghost use Rattle.kept_host.specs.Kept.{startNumber, sameNumber, stageAt, stageWords, waitWords, wordsOf};
+use host::Phase;
+use host::Session;
+use host::Wait;
+use stages::Rate;
+use stages::Same;
+use stages::Stage;
+use stages::Start;
+use stages::rate_number;
+
+// What a stage puts into a record.
+pub(crate) struct Staged {
+    pub(crate) stage: u32,
+    pub(crate) rate: u32,
+    pub(crate) size: u32,
+    pub(crate) number: u32,
+}
+
+pub(crate) fn words_of(session: Session) -> [u32; 14]
+    ensures { λ r. ⌜ r ≡ wordsOf session ⌝ }
+{
+    let phase = session.phase;
+    match phase {
+        Phase::Ended => [
+            flat::low(session.image),
+            flat::high(session.image),
+            0,
+            0,
+            0,
+            0,
+            0,
+            0,
+            0,
+            0,
+            0,
+            0,
+            0,
+            0,
+        ],
+        Phase::Waiting(wait) => {
+            let stage = wait.stage;
+            wait_words(session.image, stage_words(stage), wait)
+        }
+    }
+}
+
+fn wait_words(image: usize, staged: Staged, wait: Wait) -> [u32; 14]
+    ensures { λ r. ⌜ r ≡ waitWords image staged wait ⌝ }
+{
+    let plan = wait.plan;
+    let kind = plan.kind;
+    let first = plan.first;
+    let start = plan.start;
+    let same = plan.same;
+    [
+        flat::low(image),
+        flat::high(image),
+        flat::low(plan.wish),
+        flat::high(plan.wish),
+        staged.stage,
+        kinds::number_of(kind) as u32,
+        rate_number(first) as u32,
+        staged.rate,
+        start_number(start),
+        same_number(same),
+        staged.size,
+        staged.number,
+        wait.waited,
+        wait.repeats,
+    ]
+}
+
+// The words of a stage; what it does not have is 0.
+fn stage_words(stage: Stage) -> Staged
+    ensures { λ r. ⌜ r ≡ stageWords stage ⌝ }
+{
+    match stage {
+        Stage::Text => Staged {
+            stage: 1,
+            rate: 0,
+            size: 0,
+            number: 0,
+        },
+        Stage::Asking(rate) => stage_at(2, rate, 0, 0),
+        Stage::Declaring(rate) => stage_at(3, rate, 0, 0),
+        Stage::Sending { rate, size, number } => stage_at(4, rate, size, number),
+        Stage::Noticing { rate, size } => stage_at(5, rate, size, 0),
+        Stage::Restarting { rate, size } => stage_at(6, rate, size, 0),
+    }
+}
+
+fn stage_at(stage: u32, rate: Rate, size: usize, number: usize) -> Staged
+    ensures { λ r. ⌜ r ≡ stageAt stage rate size number ⌝ }
+{
+    Staged {
+        stage: stage,
+        rate: rate_number(rate) as u32,
+        size: flat::low(size),
+        number: flat::low(number),
+    }
+}
+
+fn start_number(start: Start) -> u32
+    ensures { λ r. ⌜ r ≡ startNumber start ⌝ }
+{
+    match start {
+        Start::WithText => 1,
+        Start::AtOnce => 0,
+    }
+}
+
+fn same_number(same: Same) -> u32
+    ensures { λ r. ⌜ r ≡ sameNumber same ⌝ }
+{
+    match same {
+        Same::GoOn => 1,
+        Same::Stop => 0,
+    }
+}
