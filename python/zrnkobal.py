@@ -50,10 +50,10 @@ u8, u16, u32, size = ctypes.c_uint8, ctypes.c_uint16, ctypes.c_uint32, ctypes.c_
 
 
 class Refused(Exception):
-    """A refusal: its number and words."""
+    """A refusal: its number and words, and for a file the place of the faulty block."""
 
-    def __init__(self, number):
-        super().__init__("refused %d, %s" % (number, words(number)))
+    def __init__(self, number, place=None):
+        super().__init__("refused %d, %s" % (number, words(number)) + ("" if place is None else ", at byte %d of the file" % place))
         self.number = number
 
 
@@ -98,7 +98,7 @@ def blocks(file):
         if answer == PAST:
             return
         if answer != FOUND:
-            raise Refused(answer)
+            raise Refused(answer, place)
         yield kind, file[place + start : place + start + length]
         n += 1
 

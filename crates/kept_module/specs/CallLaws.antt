@@ -1,6 +1,6 @@
 -- The calls, put together from what each callee answers.
 use Prim.Native.Nat.{ℕ, _≤_}
-use mathlib.Core.Bool.{Bool, cond}
+use mathlib.Core.Bool.{Bool}
 use mathlib.Core.List.{List}
 use mathlib.Core.Path.{_≡_, refl, _∙_}
 use native.Mathlib.Omega.{arith}
@@ -11,14 +11,11 @@ use Rattle.flat.specs.Words.{spelledAll, recorded, standsFor}
 use Rattle.flat.specs.WordsLaws.{length-spelled-all}
 use Rattle.flat.specs.Found.{recorded-alone}
 use Rattle.module.specs.Session.{openingOf}
-use Rattle.module.specs.Step.{Left, stepOf}
-use Rattle.module.specs.Runs.{countIn}
 use Rattle.module.specs.declared.session.Phase.{Phase}
 use Rattle.module.specs.declared.session.Phase.the-variants.{Closed, Ready, Begun, Loading, Done}
 use Rattle.module.specs.declared.session.Session.{Session}
 use Rattle.module.specs.declared.session.Stepped.{Stepped}
-use Rattle.module.specs.declared.session.Event.{Event}
-use Rattle.kept_module.specs.Kept.{recordBytes, wordsBy, wordsOf, fieldsIn, stands, sessionBy, sessionIn, keptOf, answerNumber, kept, keptStep, opened, keptOpening}
+use Rattle.kept_module.specs.Kept.{recordBytes, wordsBy, wordsOf, fieldsIn, stands, sessionBy, sessionIn, answerNumber, opened, keptOpening}
 
 -- A record has nine words.
 pub nine-words : (s : Session) → length (wordsOf s) ≡ 9
@@ -47,15 +44,6 @@ pub session-by : (st : List ℕ) (fields s : Session) (genuine : Bool) → field
     → s ≡ sessionBy genuine fields → s ≡ sessionIn st
 unfolding sessionIn stands
 session-by st fields s genuine f g e = rw (e, g, f)
-
--- A step.
-pub step-by : (st payload flash reply after : List ℕ) (event : Event) (fields s : Session) (genuine : Bool) (l : Left) (number count : ℕ)
-    → fields ≡ fieldsIn st → genuine ≡ standsFor (wordsOf fields) st → s ≡ sessionBy genuine fields
-    → l ≡ stepOf s event payload flash reply → after ≡ cond genuine (recorded (wordsOf (l .session)) st) st
-    → number ≡ answerNumber (l .answer) → count ≡ countIn (l .answer)
-    → kept number count after (l .flash) (l .reply) ≡ keptStep st event payload flash reply
-unfolding keptStep sessionIn keptOf stands
-step-by st payload flash reply after event fields s genuine l number count f g e step k n m = rw (k, n, m, step, e, g, f)
 
 -- An opening.
 pub opening-by : (st flash after ws : List ℕ) (first : Stepped) (number : ℕ) → recordBytes ≤ length st → first ≡ openingOf flash

@@ -11,8 +11,8 @@ use Rattle.module.specs.Promises.{opened}
 use Rattle.module.specs.declared.session.Session.{Session}
 use Rattle.kept_module.specs.Kept.{recordBytes, wordsOf, stands, sessionIn, answerNumber, Kept, keptAs, keptStep, keptOpening}
 
--- KeptLaws.antt. The record of any session that can arise, written in a buffer with room for it, stands there and is read as that
--- session.
+-- KeptLaws.antt. The record of any session that can arise, over a flash whose length fits eight bytes, stands in any buffer with room
+-- for it and is read there as that session.
 abbrev pub KeptBack : Type 0
 KeptBack =
     (s : Session) (st : List ℕ) → arises s ≡ true → s .flash < 2 ^ 64 → recordBytes ≤ length st
@@ -43,7 +43,8 @@ pub record SameRun (st flash : List ℕ) (gs : List Given) : Type 0 where
   pub each : callsOf (keptOpening st flash .state) gs ≡ map (told st) (runOf (opened flash) gs)
   pub bytes : bytesAfter (keptOpening st flash .state) gs ≡ recorded (wordsOf (afterOf (opened flash) gs)) st
 
--- RunLaws.antt. This holds of every run, from an opening over any flash, in any buffer with room for the record.
+-- RunLaws.antt. This holds of every run whose payloads are bytes, from an opening over any flash whose length fits eight bytes, in any
+-- buffer with room for the record.
 abbrev pub KeptRun : Type 0
 KeptRun =
     (st flash : List ℕ) (gs : List Given) → AllBytes gs → length flash < 2 ^ 64 → recordBytes ≤ length st → SameRun st flash gs

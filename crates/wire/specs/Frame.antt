@@ -45,13 +45,14 @@ wireForm content = headMark ∷ (escaped content ++ (tailMark ∷ []))
 unfoldable pub wireOf : Frame → List ℕ
 wireOf f = wireForm (contentOf f)
 
--- Content is that of a frame: at least 5 bytes, Length equal to content minus 2, our device, the check right.
+-- Content is that of a frame: 5 to 1,035 bytes, Length equal to content minus 2, our device, the check right.
 unfoldable pub isContent : List ℕ → Bool
 isContent c =
     leb 5 (length c)
+    && (leb (length c) longestContent
     && (eqb (numberAt 2 c 0) (length c - 2)
     && (eqb (getD c 2 0) device
-    && eqb (getD c (length c - 1) 0) (xorOf (take (length c - 1) c))))
+    && eqb (getD c (length c - 1) 0) (xorOf (take (length c - 1) c)))))
 
 -- The frame that content carries.
 abbrev pub frameIn : List ℕ → Frame

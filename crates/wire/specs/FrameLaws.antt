@@ -29,9 +29,10 @@ length-content f = simp (length-append, length-unchecked) (omega arith)
 
 -- ---- the test of content and the facts that it stands for
 
--- The four facts that make bytes the content of a frame.
+-- The five facts that make bytes the content of a frame.
 record Parts (c : List ℕ) : Type 0 where
   long : 5 ≤ length c
+  short : length c ≤ longestContent
   counted : numberAt 2 c 0 ≡ length c - 2
   ours : getD c 2 0 ≡ device
   checked : getD c (length c - 1) 0 ≡ xorOf (take (length c - 1) c)
@@ -40,7 +41,12 @@ record Parts (c : List ℕ) : Type 0 where
 test-of-parts : (c : List ℕ) → Parts c → isContent c ≡ true
 unfolding isContent
 test-of-parts c p =
-    rw (le-leb 5 (length c) (p .long), eq-eqb (numberAt 2 c 0) (length c - 2) (p .counted), eq-eqb (getD c 2 0) device (p .ours))
+    rw (
+      le-leb 5 (length c) (p .long),
+      le-leb (length c) longestContent (p .short),
+      eq-eqb (numberAt 2 c 0) (length c - 2) (p .counted),
+      eq-eqb (getD c 2 0) device (p .ours),
+    )
     (eq-eqb (getD c (length c - 1) 0) (xorOf (take (length c - 1) c)) (p .checked))
 
 -- Where the test holds, the facts do.
@@ -48,10 +54,12 @@ parts-of-test : (c : List ℕ) → isContent c ≡ true → Parts c
 unfolding isContent
 parts-of-test c h =
     let size = both (leb 5 (length c)) _ h in
-    let count = both (eqb (numberAt 2 c 0) (length c - 2)) _ (size .1) in
+    let most = both (leb (length c) longestContent) _ (size .1) in
+    let count = both (eqb (numberAt 2 c 0) (length c - 2)) _ (most .1) in
     let ends = both (eqb (getD c 2 0) device) _ (count .1) in
     record {
       long = leb-true 5 (length c) (size .0);
+      short = leb-true (length c) longestContent (most .0);
       counted = eqb-true (numberAt 2 c 0) (length c - 2) (count .0);
       ours = eqb-true (getD c 2 0) device (ends .0);
       checked = eqb-true (getD c (length c - 1) 0) (xorOf (take (length c - 1) c)) (ends .1);
@@ -72,6 +80,7 @@ content-good f h =
     let check : ℕ = xorOf (uncheckedOf f) in
     test-of-parts (contentOf f) (record {
       long = omega arith;
+      short = omega (arith, size);
       counted = little-spelled 2 (length (f .payload) + 3) (omega arith) ∙ omega arith;
       ours = refl;
       checked =

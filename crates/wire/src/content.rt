@@ -34,6 +34,9 @@ pub fn is_content(content: &[u8]) -> bool
     if n < 5 {
         return false;
     }
+    if CONTENT_MOST < n {
+        return false;
+    }
     if octets::two_at(content, 0) as usize != n - 2 {
         return false;
     }

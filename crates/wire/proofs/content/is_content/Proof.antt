@@ -15,35 +15,43 @@ returns : tie.Need-returns
 unfolding isContent
 returns c = rw (lt-leb 5 _ (c .if1 .taken))
 
-two-at-requires : tie.Need-two-at-requires
-two-at-requires c κs = search needs
-
-cast-if2 : tie.Need-cast-if2
-cast-if2 c = search needs
-
-sub-if2 : tie.Need-sub-if2
-sub-if2 c = search needs
-
 returns-2 : tie.Need-returns-2
 unfolding isContent
 returns-2 c =
-    let s = c .before .before .before .before .args .content .now in
+    let s = c .before .before .before .args .content .now in
+    rw (le-leb 5 (length s) (c .before .if1 .left), lt-leb (length s) 1035 (c .if2 .taken))
+
+two-at-requires : tie.Need-two-at-requires
+two-at-requires c κs = search needs
+
+cast-if3 : tie.Need-cast-if3
+cast-if3 c = search needs
+
+sub-if3 : tie.Need-sub-if3
+sub-if3 c = search needs
+
+returns-3 : tie.Need-returns-3
+unfolding isContent
+returns-3 c =
+    let s = c .before .before .before .before .before .args .content .now in
     rw (
-      le-leb 5 (length s) (c .before .before .if1 .left),
-      ne-eqb (numberAt 2 s 0) (length s - 2) (λ e. c .if2 .taken (c .before .two-at .ensures ∙ e)),
+      le-leb 5 (length s) (c .before .before .before .if1 .left),
+      le-leb (length s) 1035 (c .before .before .if2 .left),
+      ne-eqb (numberAt 2 s 0) (length s - 2) (λ e. c .if3 .taken (c .before .two-at .ensures ∙ e)),
     )
 
 byte-at-requires : tie.Need-byte-at-requires
 byte-at-requires c κs = search needs
 
-returns-3 : tie.Need-returns-3
+returns-4 : tie.Need-returns-4
 unfolding isContent
-returns-3 c =
-    let s = c .before .before .before .before .before .before .args .content .now in
+returns-4 c =
+    let s = c .before .before .before .before .before .before .before .args .content .now in
     rw (
-      le-leb 5 (length s) (c .before .before .before .before .if1 .left),
-      eq-eqb (numberAt 2 s 0) (length s - 2) (sym (c .before .before .before .two-at .ensures) ∙ c .before .before .if2 .left),
-      ne-eqb (getD s 2 0) 1 (λ e. c .if3 .taken (c .before .byte-at .ensures ∙ e)),
+      le-leb 5 (length s) (c .before .before .before .before .before .if1 .left),
+      le-leb (length s) 1035 (c .before .before .before .before .if2 .left),
+      eq-eqb (numberAt 2 s 0) (length s - 2) (sym (c .before .before .before .two-at .ensures) ∙ c .before .before .if3 .left),
+      ne-eqb (getD s 2 0) 1 (λ e. c .if4 .taken (c .before .byte-at .ensures ∙ e)),
     )
 
 sub-byte-at : tie.Need-sub-byte-at
@@ -61,15 +69,16 @@ slice-aggregate-xor c = sym (length-take-le _ _ (omega arith))
 xor-requires : tie.Need-xor-requires
 xor-requires c κs = search needs
 
-returns-4 : tie.Need-returns-4
+returns-5 : tie.Need-returns-5
 unfolding isContent
-returns-4 c =
-    let s = c .before .before .before .before .before .before .before .before .before .args .content .now in
+returns-5 c =
+    let s = c .before .before .before .before .before .before .before .before .before .before .args .content .now in
     rw (
-      le-leb 5 (length s) (c .before .before .before .before .before .before .before .if1 .left),
+      le-leb 5 (length s) (c .before .before .before .before .before .before .before .before .if1 .left),
+      le-leb (length s) 1035 (c .before .before .before .before .before .before .before .if2 .left),
       eq-eqb (numberAt 2 s 0) (length s - 2)
-          (sym (c .before .before .before .before .before .before .two-at .ensures) ∙ c .before .before .before .before .before .if2 .left),
-      eq-eqb (getD s 2 0) 1 (sym (c .before .before .before .before .byte-at .ensures) ∙ c .before .before .before .if3 .left),
+          (sym (c .before .before .before .before .before .before .two-at .ensures) ∙ c .before .before .before .before .before .if3 .left),
+      eq-eqb (getD s 2 0) 1 (sym (c .before .before .before .before .byte-at .ensures) ∙ c .before .before .before .if4 .left),
       c .before .before .byte-at2 .ensures,
       c .xor .ensures,
     )
@@ -79,15 +88,16 @@ is-content-spec =
     tie.close
     (tie.spec
     returns
-    two-at-requires
-    cast-if2
-    sub-if2
     returns-2
-    byte-at-requires
+    two-at-requires
+    cast-if3
+    sub-if3
     returns-3
+    byte-at-requires
+    returns-4
     sub-byte-at
     byte-at-requires-2
     sub-xor
     slice-aggregate-xor
     xor-requires
-    returns-4)
+    returns-5)
