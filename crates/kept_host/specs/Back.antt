@@ -1,10 +1,10 @@
 -- A session is read as it was written.
-use Prim.Native.Nat.{ℕ, _+_, _*_, _/_, _%_, _^_, _≤_, _<_}
-use mathlib.Core.Bool.{Bool, true, _&&_}
+use Prim.Native.Nat.{ℕ, _+_, _*_, _%_, _^_, _≤_, _<_}
+use mathlib.Core.Bool.{true, _&&_}
 use mathlib.Core.List.{List}
-use mathlib.Core.Path.{_≡_, refl, sym, ap, ap₂, _∙_}
+use mathlib.Core.Path.{_≡_, refl, ap, ap₂, _∙_}
 use native.Mathlib.Omega.{arith}
-use lib.ListN.{length, getD}
+use lib.ListN.{length}
 use Rattle.octets.specs.Choice.{cond-yes}
 use Rattle.octets.specs.Octets.{little, spelled, numberAt, over}
 use Rattle.octets.specs.OctetsLaws.{little-spelled}
@@ -26,7 +26,7 @@ use Rattle.stages.specs.declared.plan.Same.the-variants.{GoOn, Stop}
 use Rattle.stages.specs.declared.plan.Plan.{Plan}
 use Rattle.stages.specs.declared.plan.Stage.{Stage}
 use Rattle.stages.specs.declared.plan.Stage.the-variants.{Text, Asking, Declaring, Sending, Noticing, Restarting}
-use Rattle.host.specs.Session.{session, wait, limitOf, arises}
+use Rattle.host.specs.Session.{session, arises}
 use Rattle.host.specs.SessionLaws.{WaitOf}
 use Rattle.host.specs.Arises.{arises-wait, limit-within}
 use Rattle.host.specs.declared.session.Wait.{Wait}

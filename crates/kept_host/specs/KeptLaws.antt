@@ -1,9 +1,8 @@
 -- The laws of Kept that the contracts lean on: how long a record is, and what a call puts together.
-use Prim.Native.Nat.{ℕ, _*_}
-use mathlib.Core.Bool.{Bool, true, false}
+use Prim.Native.Nat.{ℕ}
+use mathlib.Core.Bool.{Bool}
 use mathlib.Core.List.{List}
 use mathlib.Core.Path.{_≡_, refl, sym, ap, _∙_}
-use native.Mathlib.Omega.{arith}
 use lib.ListN.{length}
 use Rattle.octets.specs.Octets.{sameBytes, partOf}
 use Rattle.flat.specs.Words.{spelledAll, recorded, standsFor}

@@ -1,5 +1,5 @@
 -- A run through kept bytes is the session's own.
-use Prim.Native.Nat.{ℕ, _+_, _*_, _-_, _^_, _≤_, _<_}
+use Prim.Native.Nat.{ℕ, _-_, _^_, _≤_, _<_}
 use mathlib.Core.Bool.{true}
 use mathlib.Core.List.{List, [], _∷_}
 use mathlib.Core.Path.{_≡_, refl, sym, ap, ap₂, _∙_}
@@ -22,10 +22,9 @@ use Rattle.stages.specs.declared.plan.Start.{Start}
 use Rattle.stages.specs.declared.plan.Start.the-variants.{WithText, AtOnce}
 use Rattle.stages.specs.declared.plan.Same.{Same}
 use Rattle.stages.specs.declared.plan.Same.the-variants.{GoOn, Stop}
-use Rattle.stages.specs.declared.plan.Plan.{Plan}
 use Rattle.host.specs.Session.{mostRepeats, limitOf, arises}
 use Rattle.host.specs.Step.{Left, Wishes, sends, endedOf, resends, moved, timeStep, eventStep, phaseStep, stepOf}
-use Rattle.host.specs.Step.{planOf, planOpening, knownOpening, openingOf}
+use Rattle.host.specs.Step.{planOpening, knownOpening, openingOf}
 use Rattle.host.specs.Runs.{Given, leaves, afterOf}
 use Rattle.host.specs.Arises.{step-arises, reached-arises}
 use Rattle.host.specs.declared.session.Wait.{Wait}

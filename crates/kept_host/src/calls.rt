@@ -21,7 +21,8 @@ pub fn frame(
     passed: &mut u8,
 ) -> u8
     ensures { λ r. ⌜ kept r (now (count .exit)) (now (passed .exit)) (now (state .exit)) (now (out .exit))
-        ≡ keptStep (now (state .entry)) (Event.Frame command (length (now (payload .entry)))) (now (payload .entry)) (now (image .entry)) (now (out .entry)) ⌝ }
+        ≡ keptStep (now (state .entry)) (Event.Frame command (length (now (payload .entry)))) (now (payload .entry)) (now (image .entry))
+        (now (out .entry)) ⌝ }
 {
     step(
         state,
@@ -47,7 +48,8 @@ pub fn line(
     passed: &mut u8,
 ) -> u8
     ensures { λ r. ⌜ kept r (now (count .exit)) (now (passed .exit)) (now (state .exit)) (now (out .exit))
-        ≡ keptStep (now (state .entry)) (Event.Line (length (now (line .entry)))) (now (line .entry)) (now (image .entry)) (now (out .entry)) ⌝ }
+        ≡ keptStep (now (state .entry)) (Event.Line (length (now (line .entry)))) (now (line .entry)) (now (image .entry))
+        (now (out .entry)) ⌝ }
 {
     step(
         state,

@@ -1,6 +1,5 @@
 // Sessions kept in bytes: whether bytes keep one, which, and another kept in its place.
 ghost use mathlib.Core.Path.{_≡_};
-ghost use Rattle.octets.specs.Octets.{numberAt};
 ghost use Rattle.flat.specs.Words.{recorded};
 ghost use Rattle.host.specs.Step.{endedOf};
 ghost use Rattle.kept_host.specs.Kept.{wordsOf, stands, sessionIn, keptOf};

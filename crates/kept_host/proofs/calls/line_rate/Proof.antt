@@ -17,7 +17,10 @@ line-number-requires : tie.Need-line-number-requires
 line-number-requires c κs = search needs
 
 returns : tie.Need-returns
-returns c = c .line-number .ensures ∙ ap lineNumber (c .before .line-rate .ensures) ∙ ap (λ (s : Session). lineNumber (phaseRate (s .phase))) (c .before .before .session-in .ensures)
+returns c =
+    c .line-number .ensures
+    ∙ ap lineNumber (c .before .line-rate .ensures)
+    ∙ ap (λ (s : Session). lineNumber (phaseRate (s .phase))) (c .before .before .session-in .ensures)
 
 pub line-rate-spec : {M : Type 1} → statement M
 line-rate-spec =

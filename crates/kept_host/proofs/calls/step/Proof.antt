@@ -23,9 +23,11 @@ same-length-2 : tie.Need-same-length-2
 same-length-2 c = search needs
 
 returns : tie.Need-returns
-returns c = let a = c .before .before .before .before .before .before .before .before .before .before .before .before .before .before .before .before .args in
-    step-kept (a .state .now) (a .event) (a .bytes .now) (a .image .now) (a .out .now) _ _ _ _ _ (c .before .before .before .before .before .before .before .before .before .before .session-in .ensures) (c .before .before .before .before .before .before .before .before .step .ensures)
-    (c .before .before .before .keep .ensures) (c .told-of .ensures)
+returns c =
+    let d = c .before .before .before .before .before .before .before .before in
+    let a = d .before .before .before .before .before .before .before .before .args in
+    step-kept (a .state .now) (a .event) (a .bytes .now) (a .image .now) (a .out .now) _ _ _ _ _ (d .before .before .session-in .ensures)
+    (d .step .ensures) (c .before .before .before .keep .ensures) (c .told-of .ensures)
 
 pub step-spec : {M : Type 1} → statement M
 step-spec =

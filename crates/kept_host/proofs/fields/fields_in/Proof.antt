@@ -18,7 +18,13 @@ eight-at-requires c κs = search needs
 
 returns : tie.Need-returns
 unfolding fieldsIn
-returns c = rw (c .eight-at .ensures, c .before .phase-in .ensures, c .before .before .kind-of .ensures, c .before .before .before .two-at .ensures)
+returns c =
+    rw (
+      c .eight-at .ensures,
+      c .before .phase-in .ensures,
+      c .before .before .kind-of .ensures,
+      c .before .before .before .two-at .ensures,
+    )
 
 pub fields-in-spec : {M : Type 1} → statement M
 fields-in-spec =

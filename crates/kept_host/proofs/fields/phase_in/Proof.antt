@@ -25,7 +25,15 @@ enum-told : tie.Need-enum-told
 enum-told c = search needs
 
 returns : tie.Need-returns
-returns c = rw (c .four-at2 .ensures, c .before .four-at .ensures, c .before .before .stage-in .ensures, c .before .before .before .plan-in .ensures) (sym (ap (λ (k : Known). phaseIn k (c .before .before .before .before .before .before .before .before .args .state .now)) (c .before .before .before .before .before .known .given .1)))
+returns c =
+    let d = c .before .before .before .before .before in
+    rw (
+      c .four-at2 .ensures,
+      c .before .four-at .ensures,
+      c .before .before .stage-in .ensures,
+      c .before .before .before .plan-in .ensures,
+    )
+    (sym (ap (λ (k : Known). phaseIn k (d .before .before .before .args .state .now)) (d .known .given .1)))
 
 returns-2 : tie.Need-returns-2
 returns-2 c = sym (ap (λ (k : Known). phaseIn k (c .before .before .before .args .state .now)) (c .enum-told .given .1))

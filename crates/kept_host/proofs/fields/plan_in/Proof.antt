@@ -27,7 +27,16 @@ eight-at-requires c κs = search needs
 
 returns : tie.Need-returns
 unfolding planIn
-returns c = rw (c .eight-at .ensures, c .before .same-in .ensures, c .before .before .byte-at3 .ensures, c .before .before .before .start-in .ensures, c .before .before .before .before .byte-at2 .ensures, c .before .before .before .before .before .rate-in .ensures, c .before .before .before .before .before .before .byte-at .ensures)
+returns c =
+    rw (
+      c .eight-at .ensures,
+      c .before .same-in .ensures,
+      c .before .before .byte-at3 .ensures,
+      c .before .before .before .start-in .ensures,
+      c .before .before .before .before .byte-at2 .ensures,
+      c .before .before .before .before .before .rate-in .ensures,
+      c .before .before .before .before .before .before .byte-at .ensures,
+    )
 
 pub plan-in-spec : {M : Type 1} → statement M
 plan-in-spec =

@@ -17,7 +17,9 @@ same-length c = search needs
 
 returns : tie.Need-returns
 unfolding keptOf
-returns c = c .before .before .write .ensures ∙ sym (cond-yes _ _ _ (sym (c .before .before .before .before .before .stands .ensures) ∙ c .before .before .before .before .if1 .taken))
+returns c =
+    let d = c .before .before .before .before in
+    c .before .before .write .ensures ∙ sym (cond-yes _ _ _ (sym (d .before .stands .ensures) ∙ d .if1 .taken))
 
 same-length-2 : tie.Need-same-length-2
 same-length-2 c = search needs

@@ -15,7 +15,8 @@ fields-in-requires c κs = search needs
 
 returns : tie.Need-returns
 unfolding sessionIn
-returns c = c .fields-in .ensures ∙ sym (cond-yes _ _ _ (sym (c .before .before .stands .ensures) ∙ c .before .if1 .taken))
+returns c =
+    c .fields-in .ensures ∙ sym (cond-yes _ _ _ (sym (c .before .before .stands .ensures) ∙ c .before .if1 .taken))
 
 eight-at-requires : tie.Need-eight-at-requires
 eight-at-requires c κs = search needs
@@ -25,7 +26,11 @@ over-requires c κs = search needs
 
 returns-2 : tie.Need-returns-2
 unfolding sessionIn
-returns-2 c = c .over .ensures ∙ ap endedOf (c .before .eight-at .ensures) ∙ sym (cond-no _ _ _ (sym (c .before .before .before .stands .ensures) ∙ c .before .before .if1 .left))
+returns-2 c =
+    let d = c .before .before in
+    c .over .ensures
+    ∙ ap endedOf (c .before .eight-at .ensures)
+    ∙ sym (cond-no _ _ _ (sym (d .before .stands .ensures) ∙ d .if1 .left))
 
 pub session-in-spec : {M : Type 1} → statement M
 session-in-spec =

@@ -29,8 +29,12 @@ same-requires c κs = search needs
 
 returns : tie.Need-returns
 unfolding stands
-returns c = let st = c .before .before .before .before .before .before .before .before .before .args .state .now in
-    let same = compared (c .before .before .before .before .before .before .before .before .before .args .state .now) _ _ _ _ _ (c .before .before .before .before .before .before .before .fields-in .ensures) refl (c .before .before .before .before .before .write .ensures) (c .before .before .part .ensures) (c .before .same .ensures) in
+returns c =
+    let d = c .before in
+    let st = d .before .before .before .before .before .before .before .before .args .state .now in
+    let same =
+    compared st _ _ _ _ _ (d .before .before .before .before .before .before .fields-in .ensures) refl (d .before .before .before .before .write .ensures)
+    (d .before .part .ensures) (d .same .ensures) in
     sym (ap (λ (t : Bool). t && arises (fieldsIn st)) (failed same (c .if1 .taken)))
 
 can-arise-requires : tie.Need-can-arise-requires
@@ -38,10 +42,14 @@ can-arise-requires c κs = search needs
 
 returns-2 : tie.Need-returns-2
 unfolding stands
-returns-2 c = let st = c .before .before .before .before .before .before .before .before .before .before .args .state .now in
-    let same = compared (c .before .before .before .before .before .before .before .before .before .before .args .state .now) _ _ _ _ _ (c .before .before .before .before .before .before .before .before .fields-in .ensures) refl (c .before .before .before .before .before .before .write .ensures) (c .before .before .before .part .ensures) (c .before .before .same .ensures) in
+returns-2 c =
+    let d = c .before .before in
+    let st = d .before .before .before .before .before .before .before .before .args .state .now in
+    let same =
+    compared st _ _ _ _ _ (d .before .before .before .before .before .before .fields-in .ensures) refl (d .before .before .before .before .write .ensures)
+    (d .before .part .ensures) (d .same .ensures) in
     c .can-arise .ensures
-    ∙ ap arises (c .before .before .before .before .before .before .before .before .fields-in .ensures)
+    ∙ ap arises (d .before .before .before .before .before .before .fields-in .ensures)
     ∙ sym (ap (λ (t : Bool). t && arises (fieldsIn st)) (passed same (c .before .if1 .left)))
 
 pub stands-spec : {M : Type 1} → statement M

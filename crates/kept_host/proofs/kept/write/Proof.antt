@@ -20,7 +20,9 @@ same-length : tie.Need-same-length
 same-length c = search needs
 
 returns : tie.Need-returns
-returns c = c .before .before .store .ensures ∙ ap (λ (w : List ℕ). recorded w (c .before .before .before .before .before .before .before .args .state .now)) (c .before .before .before .before .before .words-of .ensures)
+returns c =
+    let d = c .before .before .before .before .before in
+    c .before .before .store .ensures ∙ ap (λ (w : List ℕ). recorded w (d .before .before .args .state .now)) (d .words-of .ensures)
 
 pub write-spec : {M : Type 1} → statement M
 write-spec =

@@ -40,9 +40,10 @@ same-length c = search needs
 returns-2 : tie.Need-returns-2
 unfolding openingBy
 returns-2 c =
+    let d = c .before .before .before .before .before .before in
     c .before .before .opening .ensures
-    ∙ rw (c .before .before .before .before .before .before .rate-in .ensures, c .before .before .before .before .before .start-in .ensures, c .before .before .before .before .same-in .ensures)
-    (sym (cond-yes _ _ _ (passed (c .before .before .before .before .before .before .before .before .known .ensures) (c .before .before .before .before .before .before .before .if1 .left))))
+    ∙ rw (d .rate-in .ensures, c .before .before .before .before .before .start-in .ensures, c .before .before .before .before .same-in .ensures)
+    (sym (cond-yes _ _ _ (passed (d .before .before .known .ensures) (d .before .if1 .left))))
 
 pub begin-spec : {M : Type 1} → statement M
 begin-spec =

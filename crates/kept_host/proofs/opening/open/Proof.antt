@@ -30,8 +30,9 @@ same-length-2 c = search needs
 returns-2 : tie.Need-returns-2
 unfolding keptOpening
 returns-2 c =
-    open-kept (c .before .before .before .before .before .before .before .before .before .before .before .before .before .before .args .state .now) _ _ _ _ _ (c .before .before .before .before .before .before .before .before .begin .ensures) (c .before .before .before .write .ensures) (c .told-of .ensures)
-    ∙ sym (cond-no _ _ _ (le-ltb _ _ (c .before .before .before .before .before .before .before .before .before .before .if1 .left)))
+    let d = c .before .before .before .before .before .before .before .before in
+    open-kept (d .before .before .before .before .before .before .args .state .now) _ _ _ _ _ (d .begin .ensures) (c .before .before .before .write .ensures) (c .told-of .ensures)
+    ∙ sym (cond-no _ _ _ (le-ltb _ _ (d .before .before .if1 .left)))
 
 pub open-spec : {M : Type 1} → statement M
 open-spec =

@@ -32,8 +32,9 @@ returns c =
 returns-2 : tie.Need-returns-2
 unfolding wordsOf
 returns-2 c =
+    let d = c .before .before .before in
     c .wait-words .ensures
-    ∙ rw (c .before .stage-words .ensures) (sym (ap (phaseWords (c .before .before .before .before .before .args .session .image)) (c .before .before .before .phase .given .1)))
+    ∙ rw (c .before .stage-words .ensures) (sym (ap (phaseWords (d .before .before .args .session .image)) (d .phase .given .1)))
 
 pub words-of-spec : {M : Type 1} → statement M
 words-of-spec =
