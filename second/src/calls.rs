@@ -41,10 +41,7 @@ macro_rules! table {
         Calls {
             frame_write: $side::frame_write,
             frame_is_content: $side::frame_is_content,
-            escapes: &[
-                $side::escape_may_follow,
-                $side::escape_original,
-            ],
+            escapes: &[$side::escape_may_follow, $side::escape_original],
             reader_new: $side::reader_new,
             reader_step: $side::reader_step,
             reader_payload: $side::reader_payload,

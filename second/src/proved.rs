@@ -149,8 +149,6 @@ pub fn frame_is_content(content: &[u8]) -> u8 {
     unsafe { c::zrn_frame_is_content(content.as_ptr(), content.len()) }
 }
 
-
-
 pub fn escape_may_follow(byte: u8) -> u8 {
     unsafe { c::zrn_escape_may_follow(byte) }
 }

@@ -1,13 +1,13 @@
 -- A reader kept as bytes is the same reader.
-use Prim.Native.Nat.{ℕ, _≤_}
+use Prim.Native.Nat.{ℕ, _+_, _≤_}
 use mathlib.Core.Bool.{Bool, true, false, _&&_}
 use mathlib.Core.List.{List, [], _∷_, _++_, map, append-assoc}
 use mathlib.Core.Path.{_≡_, refl, sym, ap, ap₂, _∙_}
 use native.Mathlib.Omega.{arith}
 use borrow.Author.Tests.{le-leb, le-ltb}
 use lib.Dec.{eqb, leb}
-use lib.ListN.{length, take, drop, length-append}
-use lib.Seq.{take-at, drop-at}
+use lib.ListN.{length, take, drop, length-append, length-drop}
+use lib.Seq.{take-at, drop-at, drop-drop, take-append-le, drop-append-le}
 use Rattle.octets.specs.Octets.{numberAt, partOf, over}
 use Rattle.octets.specs.OctetsLaws.{length-over, over-over}
 use Rattle.octets.specs.Choice.{cond-yes, cond-no}
@@ -15,13 +15,13 @@ use Rattle.wire.specs.Frame.{longestContent}
 use Rattle.flat.specs.Words.{spelledAll, lowHalf}
 use Rattle.flat.specs.WordsLaws.{length-spelled-all}
 use Rattle.flat.specs.Found.{ReadAt, read-all}
-use Rattle.reader.specs.Reader.{stepOf}
+use Rattle.reader.specs.Reader.{stepOf, payloadIn}
 use Rattle.reader.specs.SeenLaws.{step-known}
 use Rattle.reader.specs.declared.steps.Reader.{Reader}
 use Rattle.reader.specs.declared.steps.Stepped.{Stepped}
 use Rattle.kept_reader.specs.Kept.{readerBytes, flag, bytesOf, stands, readerIn}
 use Rattle.kept_reader.specs.Kept.{heardNumber, heardCommand, heardCount, Kept, keptAfter, keptStep}
-use Rattle.kept_reader.specs.Promises.{Whole, KeptBack, stepsOf, callsOf, KeptRun}
+use Rattle.kept_reader.specs.Promises.{Whole, KeptBack, KeptPayload, stepsOf, callsOf, KeptRun}
 
 -- A flag is 0 or 1, and is read as it was.
 flag-low : (b : Bool) → flag b ≤ 1
@@ -65,12 +65,21 @@ module _ (r : Reader) (state : List ℕ) (w : Whole r) (room : readerBytes ≤ l
   pending-back : numberAt 4 (over (bytesOf r) state) 8 ≡ flag (r .pending)
   pending-back = words-back .1 .1 .0
 
+  store-stands : drop 12 (over (bytesOf r) state) ≡ behind
+  store-stands = ap (drop 12) front ∙ drop-at (spelledAll (wordsOf r)) behind 12 (length-spelled-all (wordsOf r))
+
   store-back : partOf (over (bytesOf r) state) 12 longestContent ≡ r .store
   unfolding partOf behind
-  store-back =
-      let words : drop 12 (over (bytesOf r) state) ≡ behind =
-      ap (drop 12) front ∙ drop-at (spelledAll (wordsOf r)) behind 12 (length-spelled-all (wordsOf r)) in
-      ap (take longestContent) words ∙ take-at (r .store) (drop (length (bytesOf r)) state) longestContent (w .size)
+  store-back = ap (take longestContent) store-stands ∙ take-at (r .store) (drop (length (bytesOf r)) state) longestContent (w .size)
+
+  -- The payload stands behind the first four bytes of the store.
+  payload-back : (n : ℕ) → n + 4 ≤ longestContent → partOf (over (bytesOf r) state) 16 n ≡ payloadIn (r .store) n
+  unfolding partOf behind
+  payload-back n h =
+      let rest : List ℕ = drop (length (bytesOf r)) state in
+      let place : drop 16 (over (bytesOf r) state) ≡ drop 4 (r .store) ++ rest =
+      sym (drop-drop 4 12 (over (bytesOf r) state)) ∙ ap (drop 4) store-stands ∙ drop-append-le 4 (r .store) rest (omega (arith, w .size)) in
+      ap (take n) place ∙ take-append-le n (drop 4 (r .store)) rest (rw (length-drop, w .size) (omega arith))
 
   back : readerIn (over (bytesOf r) state) ≡ r
   unfolding readerIn stands
@@ -82,6 +91,9 @@ module _ (r : Reader) (state : List ℕ) (w : Whole r) (room : readerBytes ≤ l
 
 pub kept-back : KeptBack
 kept-back r state w room = back r state w room
+
+pub kept-payload : KeptPayload
+kept-payload r state n w room h = payload-back r state w room n h
 
 -- The reader after a step is as these calls leave it.
 step-whole : (r : Reader) (b : ℕ) → Whole r → Whole (stepOf r b .reader)

@@ -1,11 +1,11 @@
 -- What a reader that is kept as bytes promises: it answers as the reader itself does.
-use Prim.Native.Nat.{ℕ, _≤_}
+use Prim.Native.Nat.{ℕ, _+_, _≤_}
 use mathlib.Core.List.{List, [], _∷_, map}
 use mathlib.Core.Path.{_≡_}
 use lib.ListN.{length}
-use Rattle.octets.specs.Octets.{over}
+use Rattle.octets.specs.Octets.{partOf, over}
 use Rattle.wire.specs.Frame.{longestContent}
-use Rattle.reader.specs.Reader.{stepOf}
+use Rattle.reader.specs.Reader.{stepOf, payloadIn}
 use Rattle.reader.specs.declared.steps.Reader.{Reader}
 use Rattle.reader.specs.declared.steps.Stepped.{Stepped}
 use Rattle.kept_reader.specs.Kept.{readerBytes, bytesOf, readerIn, Kept, keptAfter, keptStep}
@@ -18,6 +18,12 @@ pub record Whole (r : Reader) : Type 0 where
 -- Its bytes are read as the same reader again, whatever follows them in the buffer.
 abbrev pub KeptBack : Type 0
 KeptBack = (r : Reader) (state : List ℕ) → Whole r → readerBytes ≤ length state → readerIn (over (bytesOf r) state) ≡ r
+
+-- The payload that the reader carries stands in the buffer from byte 16 on, where zrn_reader_payload says.
+abbrev pub KeptPayload : Type 0
+KeptPayload =
+    (r : Reader) (state : List ℕ) (n : ℕ) → Whole r → readerBytes ≤ length state → n + 4 ≤ longestContent
+    → partOf (over (bytesOf r) state) 16 n ≡ payloadIn (r .store) n
 
 -- The steps of a reader over some bytes.
 unfoldable pub stepsOf : Reader → List ℕ → List Stepped

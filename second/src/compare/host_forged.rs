@@ -3,7 +3,6 @@
 use super::host::{fitting, some_event, some_room, some_wait, unfitting, Event, Hosts, View, OUT, START_ANSWER};
 use super::rng::Rng;
 use super::tally::Tally;
-use second::flat::HOST_BYTES;
 
 /// Fields of a record: image length and wish, then stage, type, first rate, rate, start, same, size, number, waited, repeats.
 type Fields = ([u64; 2], [u32; 10]);
@@ -79,12 +78,7 @@ fn alter(rng: &mut Rng, (long, numbers): &mut Fields) {
         };
         return;
     }
-    numbers[which] = match rng.below(5) {
-        0 | 1 => numbers[which].wrapping_add(1),
-        2 => numbers[which].wrapping_sub(1),
-        3 => rng.pick(&known),
-        _ => numbers[which] ^ 1 << rng.below(32),
-    };
+    numbers[which] = rng.near(numbers[which], &known);
 }
 
 fn some_record(rng: &mut Rng) -> Vec<u8> {
@@ -92,15 +86,7 @@ fn some_record(rng: &mut Rng) -> Vec<u8> {
     for _ in 0..rng.pick(&[0, 1, 1, 1, 2]) {
         alter(rng, &mut fields);
     }
-    let mut bytes = bytes_of(fields);
-    match rng.below(30) {
-        0 => rng.fill(&mut bytes),
-        1 => rng.fill(&mut bytes[16..]),
-        2 => bytes.truncate(rng.below(HOST_BYTES)),
-        3..=8 => bytes.extend([0xEE; 4]),
-        _ => {}
-    }
-    bytes
+    rng.mangled(bytes_of(fields), 16)
 }
 
 /// The image that goes with a record, as far as there is one.

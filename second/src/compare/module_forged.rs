@@ -3,7 +3,6 @@
 use super::module::{flash_length, some_event, some_packet, some_wait, Event, Modules, View};
 use super::rng::Rng;
 use super::tally::Tally;
-use second::flat::MODULE_BYTES;
 
 /// Fields of a record: the flash length, then idle, phase, type, length, size, number, written.
 type Fields = (u64, [u32; 7]);
@@ -69,12 +68,7 @@ fn alter(rng: &mut Rng, (length, numbers): &mut Fields) {
         };
         return;
     }
-    numbers[which] = match rng.below(5) {
-        0 | 1 => numbers[which].wrapping_add(1),
-        2 => numbers[which].wrapping_sub(1),
-        3 => rng.pick(&known),
-        _ => numbers[which] ^ 1 << rng.below(32),
-    };
+    numbers[which] = rng.near(numbers[which], &known);
     // A wrong size or number may still go with what was written.
     if rng.percent(30) {
         numbers[6] = numbers[4].wrapping_mul(numbers[5]);
@@ -86,15 +80,7 @@ fn some_record(rng: &mut Rng) -> Vec<u8> {
     for _ in 0..rng.pick(&[0, 1, 1, 1, 2]) {
         alter(rng, &mut fields);
     }
-    let mut bytes = bytes_of(fields);
-    match rng.below(30) {
-        0 => rng.fill(&mut bytes),
-        1 => rng.fill(&mut bytes[12..]),
-        2 => bytes.truncate(rng.below(MODULE_BYTES)),
-        3..=8 => bytes.extend([0xEE; 4]),
-        _ => {}
-    }
-    bytes
+    rng.mangled(bytes_of(fields), 12)
 }
 
 /// The flash that goes with a record, as far as there is one.

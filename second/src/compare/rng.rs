@@ -61,4 +61,26 @@ impl Rng {
         }
         bytes
     }
+
+    /// A number beside another one, a known one, or the other one with a bit turned.
+    pub fn near(&mut self, number: u32, known: &[u32]) -> u32 {
+        match self.below(5) {
+            0 | 1 => number.wrapping_add(1),
+            2 => number.wrapping_sub(1),
+            3 => self.pick(known),
+            _ => number ^ 1 << self.below(32),
+        }
+    }
+
+    /// A record, mostly as it is; now and then noise, noise behind its front, cut short, or with bytes behind it.
+    pub fn mangled(&mut self, mut record: Vec<u8>, front: usize) -> Vec<u8> {
+        match self.below(30) {
+            0 => self.fill(&mut record),
+            1 => self.fill(&mut record[front..]),
+            2 => record.truncate(self.below(record.len())),
+            3..=8 => record.extend([0xEE; 4]),
+            _ => {}
+        }
+        record
+    }
 }
