@@ -146,6 +146,9 @@ uint8_t zrn_host_line(uint8_t *state, size_t state_length, const uint8_t *line, 
 uint8_t zrn_host_wait(uint8_t *state, size_t state_length, uint32_t ms, const uint8_t *image, size_t image_length, uint8_t *out,
                       size_t out_length, size_t *count, uint8_t *passed);
 
+/* Whether these bytes are the record of a session that could arise; any others are taken as an ended session. */
+bool zrn_host_can_arise(const uint8_t *state, size_t state_length);
+
 /* Packets accepted, as the answer, and packets in all; both 0 before the piece size is set and once the session has ended. */
 size_t zrn_host_progress(const uint8_t *state, size_t state_length, size_t *total);
 

@@ -31,6 +31,7 @@ pub struct Calls {
     pub host_wait: fn(&mut [u8], u32, &[u8], &mut [u8], &mut usize, &mut u8) -> u8,
     pub host_progress: fn(&[u8], &mut usize) -> usize,
     pub host_line_rate: fn(&[u8]) -> u8,
+    pub host_can_arise: fn(&[u8]) -> u8,
     pub host_resent: fn(&[u8]) -> u32,
 }
 
@@ -65,6 +66,7 @@ macro_rules! table {
             host_wait: $side::host_wait,
             host_progress: $side::host_progress,
             host_line_rate: $side::host_line_rate,
+            host_can_arise: $side::host_can_arise,
             host_resent: $side::host_resent,
         }
     };

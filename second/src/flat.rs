@@ -527,6 +527,13 @@ pub fn host_line_rate(state: &[u8]) -> u8 {
     decode_host(state).line_rate().map_or(0, Rate::number)
 }
 
+/// The bytes are the record of the session that they are read as.
+pub fn host_can_arise(state: &[u8]) -> u8 {
+    let mut own = [0; HOST_BYTES];
+    encode_host(&decode_host(state), &mut own);
+    u8::from(state.starts_with(&own))
+}
+
 pub fn host_resent(state: &[u8]) -> u32 {
     decode_host(state).resent()
 }

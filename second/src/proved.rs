@@ -134,6 +134,7 @@ mod c {
         ) -> u8;
         pub fn zrn_host_progress(state: *const u8, n: usize, total: *mut usize) -> usize;
         pub fn zrn_host_line_rate(state: *const u8, n: usize) -> u8;
+        pub fn zrn_host_can_arise(state: *const u8, n: usize) -> u8;
         pub fn zrn_host_resent(state: *const u8, n: usize) -> u32;
     }
 }
@@ -395,6 +396,10 @@ pub fn host_progress(state: &[u8], total: &mut usize) -> usize {
 
 pub fn host_line_rate(state: &[u8]) -> u8 {
     unsafe { c::zrn_host_line_rate(state.as_ptr(), state.len()) }
+}
+
+pub fn host_can_arise(state: &[u8]) -> u8 {
+    unsafe { c::zrn_host_can_arise(state.as_ptr(), state.len()) }
 }
 
 pub fn host_resent(state: &[u8]) -> u32 {

@@ -1,6 +1,6 @@
 // UBF files: a block read and written, the n-th of a file, and where its image and texts stand.
 ghost use mathlib.Core.Path.{_≡_};
-ghost use Prim.Native.Nat.{_+_, _<_};
+ghost use Prim.Native.Nat.{_+_};
 ghost use Rattle.octets.specs.Octets.{partOf};
 ghost use Rattle.ubf.specs.Block.{modelIn, versionIn, nameIn, dateIn, blockOf};
 ghost use Rattle.ubf.specs.Pack.{gathered, packOf};
@@ -139,7 +139,7 @@ pub extern "C" fn zrn_ubf_block_at(
 pub extern "C" fn zrn_ubf_image(block: &[u8], start: u32, length: u32, place: &mut usize) -> usize
     ensures { λ r. ⌜ record { count = r; place = now (place .exit) } ≡ stretchOf start (partOf (now (block .entry)) start length) ⌝ }
 {
-    stretch(block, wide(start), wide(length), place)
+    stretch(block, flat::wide(start), flat::wide(length), place)
 }
 
 #[no_mangle]
@@ -174,7 +174,7 @@ pub extern "C" fn zrn_ubf_date(block: &[u8], place: &mut usize) -> usize
 pub extern "C" fn zrn_ubf_size(start: u32, length: u32) -> usize
     ensures { λ r. ⌜ r ≡ start + length + 4 ⌝ }
 {
-    wide(start) + wide(length) + 4
+    flat::wide(start) + flat::wide(length) + 4
 }
 
 #[no_mangle]
@@ -218,10 +218,4 @@ pub fn stretch(s: &[u8], at: usize, n: usize, place: &mut usize) -> usize
 {
     *place = at;
     octets::part(s, at, n).len()
-}
-
-fn wide(x: u32) -> usize
-    ensures { λ r. ⌜ (r ≡ x) × (r < 4294967296) ⌝ }
-{
-    x as usize
 }

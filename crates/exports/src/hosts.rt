@@ -4,7 +4,7 @@ ghost use mathlib.Core.Path.{_≡_};
 ghost use lib.ListN.{length};
 ghost use Rattle.host.specs.Session.{progressOf, phaseProgress, phaseRate, phaseRepeats};
 ghost use Rattle.host.specs.declared.session.Event.the-variants as Event;
-ghost use Rattle.kept_host.specs.Kept.{sessionIn, lineNumber, opened, keptOpening, kept, keptStep};
+ghost use Rattle.kept_host.specs.Kept.{stands, sessionIn, lineNumber, opened, keptOpening, kept, keptStep};
 
 #[no_mangle]
 pub extern "C" fn zrn_host_open(
@@ -68,6 +68,13 @@ pub extern "C" fn zrn_host_wait(
         ≡ keptStep (now (state .entry)) (Event.Elapsed ms) [] (now (image .entry)) (now (out .entry)) ⌝ }
 {
     kept_host::wait(state, ms, image, out, count, passed)
+}
+
+#[no_mangle]
+pub extern "C" fn zrn_host_can_arise(state: &[u8]) -> bool
+    ensures { λ r. ⌜ r ≡ stands (now (state .entry)) ⌝ }
+{
+    kept_host::stands(state)
 }
 
 #[no_mangle]

@@ -3,3 +3,4 @@ pub mod Answers
 pub mod Words
 pub mod WordsLaws
 pub mod Found
+pub mod Calls

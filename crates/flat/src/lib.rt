@@ -14,3 +14,4 @@ pub use words::eight_at;
 pub use words::high;
 pub use words::low;
 pub use words::store;
+pub use words::wide;

@@ -42,7 +42,8 @@ pub fn high(x: usize) -> u32
     (x / 4294967296 % 4294967296) as u32
 }
 
-fn wide(x: u32) -> usize
+// A word as a size.
+pub fn wide(x: u32) -> usize
     ensures { λ r. ⌜ (r ≡ x) × (r < 4294967296) ⌝ }
 {
     x as usize

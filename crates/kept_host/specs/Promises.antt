@@ -5,6 +5,7 @@ use mathlib.Core.List.{List, [], _∷_}
 use mathlib.Core.Path.{_≡_}
 use lib.ListN.{length}
 use Rattle.flat.specs.Words.{recorded}
+use Rattle.flat.specs.Calls.{callsBy, bytesBy}
 use Rattle.stages.specs.Stages.{numberOfRate}
 use Rattle.host.specs.Session.{arises}
 use Rattle.host.specs.Step.{Wishes, openingOf}
@@ -38,15 +39,12 @@ KeptBack =
 abbrev pub keptBy : List ℕ → Given → Kept
 keptBy st g = keptStep st (g .event) (g .bytes) (g .image) (g .output)
 
--- A run of the bytes: what each step leaves, the bytes of each lent to the next.
-unfoldable pub keptRun : List ℕ → List Given → List Kept
-keptRun st [] = []
-keptRun st (g ∷ gs) = keptBy st g ∷ keptRun (keptBy st g .state) gs
+-- A run of the bytes: what each step leaves, the bytes of each lent to the next; and the bytes after it.
+abbrev pub callsOf : List ℕ → List Given → List Kept
+callsOf st gs = callsBy keptBy (λ (k : Kept). k .state) st gs
 
--- The bytes after it.
-unfoldable pub keptAfter : List ℕ → List Given → List ℕ
-keptAfter st [] = st
-keptAfter st (g ∷ gs) = keptAfter (keptBy st g .state) gs
+abbrev pub bytesAfter : List ℕ → List Given → List ℕ
+bytesAfter st gs = bytesBy keptBy (λ (k : Kept). k .state) st gs
 
 -- The session's own run told in the same way: the answer of each step by its numbers, its output, and the record of the session then.
 unfoldable pub ownRun : Session → List ℕ → List Given → List Kept
@@ -62,8 +60,8 @@ keptOpened st number w image output =
 -- are the record of the session that the run leads to.
 pub record RunKept (st : List ℕ) (number : ℕ) (w : Wishes) (image output : List ℕ) (gs : List Given) : Type 0 where
   pub opened-same : keptOpened st number w image output ≡ openedAs (openingOf number w image output) st
-  pub steps-same : keptRun (keptOpened st number w image output .state) gs ≡ ownRun (openingOf number w image output .session) st gs
-  pub bytes-same : keptAfter (keptOpened st number w image output .state) gs
+  pub steps-same : callsOf (keptOpened st number w image output .state) gs ≡ ownRun (openingOf number w image output .session) st gs
+  pub bytes-same : bytesAfter (keptOpened st number w image output .state) gs
       ≡ recorded (wordsOf (afterOf (openingOf number w image output .session) gs)) st
 
 -- From every opening over every image, in 56 bytes or more, whatever the steps are given (Run.antt).

@@ -36,9 +36,10 @@ use Rattle.host.specs.declared.session.Event.the-variants.{Frame, Line, Elapsed
 use Rattle.host.specs.declared.session.Stepped.{Stepped}
 use Rattle.kept_host.specs.Kept.{startNumber, sameNumber, wordsOf, rateIn, startIn, sameIn, keptOf, Kept, keptAs, keptStep}
 use Rattle.kept_host.specs.Kept.{Opened, openedAs, wishesKnown, wishesIn, openingBy, keptOpening}
+use Rattle.flat.specs.Calls.{callsBy, bytesBy}
 use Rattle.flat.specs.Found.{recorded-again}
 use Rattle.kept_host.specs.KeptLaws.{words-count}
-use Rattle.kept_host.specs.Promises.{wishIn, Real, keptBy, keptRun, keptAfter, ownRun, keptOpened, KeptRun}
+use Rattle.kept_host.specs.Promises.{wishIn, Real, keptBy, callsOf, bytesAfter, ownRun, keptOpened, KeptRun}
 use Rattle.kept_host.specs.Back.{kept-back}
 
 -- ---- image length and wish stay numbers of eight bytes
@@ -125,20 +126,20 @@ module _ (st : List ℕ) (room : 56 ≤ length st) where
       (cond-yes _ _ _ (back .0)
       ∙ recorded-again (wordsOf s) (wordsOf next) st (words-count s ∙ sym (words-count next)) (rw (words-count s) (omega (arith, room))))
 
-  run-same : (s : Session) (gs : List Given) → arises s ≡ true → Real s → keptRun (recorded (wordsOf s) st) gs ≡ ownRun s st gs
-  unfolding keptRun ownRun
+  run-same : (s : Session) (gs : List Given) → arises s ≡ true → Real s → callsOf (recorded (wordsOf s) st) gs ≡ ownRun s st gs
+  unfolding callsBy ownRun
   run-same s [] a r = refl
   run-same s (g ∷ gs) a r =
       let here = step-same s g a r in
       ap₂ _∷_ here
-      (ap (λ (k : Kept). keptRun (k .state) gs) here ∙ run-same (leaves s g .session) gs (step-arises s g a) (step-real s g r))
+      (ap (λ (k : Kept). callsOf (k .state) gs) here ∙ run-same (leaves s g .session) gs (step-arises s g a) (step-real s g r))
 
   after-same : (s : Session) (gs : List Given) → arises s ≡ true → Real s
-      → keptAfter (recorded (wordsOf s) st) gs ≡ recorded (wordsOf (afterOf s gs)) st
-  unfolding keptAfter afterOf
+      → bytesAfter (recorded (wordsOf s) st) gs ≡ recorded (wordsOf (afterOf s gs)) st
+  unfolding bytesBy afterOf
   after-same s [] a r = refl
   after-same s (g ∷ gs) a r =
-      ap (λ (k : Kept). keptAfter (k .state) gs) (step-same s g a r)
+      ap (λ (k : Kept). bytesAfter (k .state) gs) (step-same s g a r)
       ∙ after-same (leaves s g .session) gs (step-arises s g a) (step-real s g r)
 
 -- ---- the opening
@@ -188,6 +189,6 @@ kept-run st number w image output gs room short wish =
     let begins = opened-same st number w image output room in
     record {
       opened-same = begins;
-      steps-same = ap (λ (o : Opened). keptRun (o .state) gs) begins ∙ run-same st room s gs a r;
-      bytes-same = ap (λ (o : Opened). keptAfter (o .state) gs) begins ∙ after-same st room s gs a r;
+      steps-same = ap (λ (o : Opened). callsOf (o .state) gs) begins ∙ run-same st room s gs a r;
+      bytes-same = ap (λ (o : Opened). bytesAfter (o .state) gs) begins ∙ after-same st room s gs a r;
     }

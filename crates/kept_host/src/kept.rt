@@ -16,8 +16,8 @@ pub(crate) fn write(session: Session, state: &mut [u8])
     flat::store(&words, state);
 }
 
-// Whether the bytes begin with the record of a session that could arise.
-fn stands(state: &[u8]) -> bool
+// Whether the bytes begin with the record of a session that could arise; any others are taken as an ended one.
+pub fn stands(state: &[u8]) -> bool
     ensures { λ r. ⌜ r ≡ stands (now (state .entry)) ⌝ }
 {
     let session = fields_in(state);

@@ -12,4 +12,5 @@ pub use calls::line_rate;
 pub use calls::progress;
 pub use calls::resent;
 pub use calls::wait;
+pub use kept::stands;
 pub use opening::open;

@@ -1,10 +1,11 @@
 -- What is promised of a session kept as bytes, to be read without the proofs. Each statement is proved in the file named beside it.
 use Prim.Native.Nat.{ℕ, _^_, _≤_, _<_}
 use mathlib.Core.Bool.{true}
-use mathlib.Core.List.{List, [], _∷_, map}
+use mathlib.Core.List.{List, map}
 use mathlib.Core.Path.{_≡_}
 use lib.ListN.{length}
 use Rattle.flat.specs.Words.{recorded}
+use Rattle.flat.specs.Calls.{callsBy, bytesBy}
 use Rattle.module.specs.Session.{openingOf, arises}
 use Rattle.module.specs.Runs.{Given, Exchange, afterOf, runOf, AllBytes}
 use Rattle.module.specs.Promises.{opened}
@@ -22,14 +23,12 @@ KeptBack =
 abbrev pub called : List ℕ → Given → Kept
 called st g = keptStep st (g .event) (g .payload) (g .flash) (g .reply)
 
-unfoldable pub callsOf : List ℕ → List Given → List Kept
-callsOf st [] = []
-callsOf st (g ∷ gs) = called st g ∷ callsOf (called st g .state) gs
+abbrev pub callsOf : List ℕ → List Given → List Kept
+callsOf st gs = callsBy called (λ (k : Kept). k .state) st gs
 
 -- The bytes after such a run.
-unfoldable pub bytesAfter : List ℕ → List Given → List ℕ
-bytesAfter st [] = st
-bytesAfter st (g ∷ gs) = bytesAfter (called st g .state) gs
+abbrev pub bytesAfter : List ℕ → List Given → List ℕ
+bytesAfter st gs = bytesBy called (λ (k : Kept). k .state) st gs
 
 -- What a session's own step leaves, told as a call tells it: the answer's number and count, flash and reply, and the caller's
 -- buffer with the record of the session at its front.

@@ -8,6 +8,7 @@ use lib.Dec.{leb}
 use lib.ListN.{length}
 use Rattle.octets.specs.Choice.{either-way}
 use Rattle.flat.specs.Words.{recorded}
+use Rattle.flat.specs.Calls.{callsBy, bytesBy}
 use Rattle.module.specs.Session.{longestIdle, openable, openingOf, arises}
 use Rattle.module.specs.Step.{Left, timeStep}
 use Rattle.module.specs.Runs.{Given, exchange, nextOf, afterOf, runOf, AllBytes}
@@ -58,7 +59,7 @@ runs-kept : (st : List ℕ) (s : Session) (gs : List Given) → ((hs : List Give
     → s .flash < 18446744073709551616 → AllBytes gs → recordBytes ≤ length st
     → (callsOf (recorded (wordsOf s) st) gs ≡ map (told st) (runOf s gs))
     × (bytesAfter (recorded (wordsOf s) st) gs ≡ recorded (wordsOf (afterOf s gs)) st)
-unfolding callsOf bytesAfter runOf afterOf
+unfolding callsBy bytesBy runOf afterOf
 runs-kept st s [] good f bytes room = (refl, refl)
 runs-kept st s (g ∷ gs) good f bytes room =
     let x = exchange s g in

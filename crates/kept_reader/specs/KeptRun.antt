@@ -14,14 +14,15 @@ use Rattle.octets.specs.Choice.{cond-yes, cond-no}
 use Rattle.wire.specs.Frame.{longestContent}
 use Rattle.flat.specs.Words.{spelledAll, lowHalf}
 use Rattle.flat.specs.WordsLaws.{length-spelled-all}
+use Rattle.flat.specs.Calls.{callsBy}
 use Rattle.flat.specs.Found.{ReadAt, read-all}
 use Rattle.reader.specs.Reader.{stepOf, payloadIn}
-use Rattle.reader.specs.SeenLaws.{step-known}
+use Rattle.reader.specs.SeenLaws.{fresh-known, step-known}
 use Rattle.reader.specs.declared.steps.Reader.{Reader}
 use Rattle.reader.specs.declared.steps.Stepped.{Stepped}
 use Rattle.kept_reader.specs.Kept.{readerBytes, flag, bytesOf, stands, readerIn}
-use Rattle.kept_reader.specs.Kept.{heardNumber, heardCommand, heardCount, Kept, keptAfter, keptStep}
-use Rattle.kept_reader.specs.Promises.{Whole, KeptBack, KeptPayload, stepsOf, callsOf, KeptRun}
+use Rattle.kept_reader.specs.Kept.{heardNumber, heardCommand, heardCount, Kept, keptNew, keptAfter, keptStep}
+use Rattle.kept_reader.specs.Promises.{Whole, KeptFresh, KeptBack, KeptPayload, stepsOf, callsOf, KeptRun}
 
 -- A flag is 0 or 1, and is read as it was.
 flag-low : (b : Bool) → flag b ≤ 1
@@ -89,6 +90,12 @@ module _ (r : Reader) (state : List ℕ) (w : Whole r) (room : readerBytes ≤ l
       cond-yes _ _ _ standing
       ∙ rw (store-back, count-back, opened-back, pending-back, flag-back (r .opened), flag-back (r .pending))
 
+pub kept-fresh : KeptFresh
+unfolding keptNew
+kept-fresh state room =
+    let k = fresh-known in
+    (rw (le-ltb (length state) readerBytes room), record { size = k .size; low = k .low })
+
 pub kept-back : KeptBack
 kept-back r state w room = back r state w room
 
@@ -117,7 +124,7 @@ one-call r state b w room =
     (over-over (bytesOf r) (bytesOf (stepOf r b .reader)) state (rw (bytes-long r state w room, bytes-long (stepOf r b .reader) state next room) (omega arith)))
 
 pub kept-run : KeptRun
-unfolding stepsOf callsOf
+unfolding stepsOf callsBy
 kept-run r state [] w room = refl
 kept-run r state (b ∷ bs) w room =
     rw (one-call r state b w room)

@@ -5,15 +5,20 @@ use mathlib.Core.Path.{_≡_}
 use lib.ListN.{length}
 use Rattle.octets.specs.Octets.{partOf, over}
 use Rattle.wire.specs.Frame.{longestContent}
-use Rattle.reader.specs.Reader.{stepOf, payloadIn}
+use Rattle.flat.specs.Calls.{callsBy}
+use Rattle.reader.specs.Reader.{fresh, stepOf, payloadIn}
 use Rattle.reader.specs.declared.steps.Reader.{Reader}
 use Rattle.reader.specs.declared.steps.Stepped.{Stepped}
-use Rattle.kept_reader.specs.Kept.{readerBytes, bytesOf, readerIn, Kept, keptAfter, keptStep}
+use Rattle.kept_reader.specs.Kept.{readerBytes, bytesOf, readerIn, Kept, keptNew, keptAfter, keptStep}
 
 -- A reader as these calls leave it: its store has 1,035 bytes, and its count is in it.
 pub record Whole (r : Reader) : Type 0 where
   pub size : length (r .store) ≡ longestContent
   pub low : r .count ≤ longestContent
+
+-- Where it has room, a fresh start leaves the bytes of a fresh reader, which is such a one.
+abbrev pub KeptFresh : Type 0
+KeptFresh = (state : List ℕ) → readerBytes ≤ length state → (keptNew state .state ≡ over (bytesOf fresh) state) × Whole fresh
 
 -- Its bytes are read as the same reader again, whatever follows them in the buffer.
 abbrev pub KeptBack : Type 0
@@ -31,9 +36,8 @@ stepsOf r [] = []
 stepsOf r (b ∷ bs) = stepOf r b ∷ stepsOf (stepOf r b .reader) bs
 
 -- The same by calls that hand the buffer from one to the next.
-unfoldable pub callsOf : List ℕ → List ℕ → List Kept
-callsOf state [] = []
-callsOf state (b ∷ bs) = keptStep state b ∷ callsOf (keptStep state b .state) bs
+abbrev pub callsOf : List ℕ → List ℕ → List Kept
+callsOf state bytes = callsBy keptStep (λ (k : Kept). k .state) state bytes
 
 -- Over any bytes each call answers what the reader's own step does, and leaves its bytes at the front of the buffer, all else as lent.
 abbrev pub KeptRun : Type 0

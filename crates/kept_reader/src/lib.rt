@@ -56,7 +56,7 @@ fn load(state: &[u8]) -> Reader
     }
     Reader {
         store: store_in(state),
-        count: wide(octets::four_at(state, 0)),
+        count: flat::wide(octets::four_at(state, 0)),
         opened: octets::four_at(state, 4) == 1,
         pending: octets::four_at(state, 8) == 1,
     }
@@ -102,12 +102,6 @@ fn flag_of(set: bool) -> u32
     ensures { λ r. ⌜ r ≡ flag set ⌝ }
 {
     if set { 1 } else { 0 }
-}
-
-fn wide(x: u32) -> usize
-    ensures { λ r. ⌜ r ≡ x ⌝ }
-{
-    x as usize
 }
 
 fn number_of(heard: Heard) -> u8

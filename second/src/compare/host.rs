@@ -143,6 +143,8 @@ impl Hosts {
         tally.input(a == b, || format!("host_progress {}: second {a:?} proved {b:?}", hex(state)));
         let [a, b] = SIDES.map(|calls| (calls.host_line_rate)(state));
         tally.input(a == b, || format!("host_line_rate {}: second {a} proved {b}", hex(state)));
+        let [a, b] = SIDES.map(|calls| (calls.host_can_arise)(state));
+        tally.input(a == b, || format!("host_can_arise {}: second {a} proved {b}", hex(state)));
         let [a, b] = SIDES.map(|calls| (calls.host_resent)(state));
         tally.input(a == b, || format!("host_resent {}: second {a} proved {b}", hex(state)));
     }

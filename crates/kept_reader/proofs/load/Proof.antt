@@ -9,7 +9,7 @@ use Rattle.kept_reader.proofs.load.Reads as reads
 use Rattle.kept_reader.proofs.load.Lts as lts
 use Rattle.kept_reader.proofs.stands_for_one.Reads as stands-for-one-reads
 use Rattle.kept_reader.proofs.store_in.Reads as store-in-reads
-use Rattle.kept_reader.proofs.wide.Reads as wide-reads
+use Rattle.flat.proofs.wide.Reads as wide-reads
 use Rattle.octets.proofs.four_at.Reads as four-at-reads
 use Rattle.reader.proofs.steps.Reader.new.Reads as new-reads
 
@@ -52,7 +52,7 @@ unfolding readerIn
 returns-2 c =
     rw (
       c .before .before .before .before .store-in .ensures,
-      c .before .before .wide .ensures,
+      c .before .before .wide .ensures .0,
       c .before .before .before .four-at .ensures,
       c .before .four-at2 .ensures,
       c .four-at3 .ensures,

@@ -8,7 +8,7 @@ use Rattle.exports.proofs.files.zrn_ubf_image.Tie as tie
 use Rattle.exports.proofs.files.zrn_ubf_image.Reads as reads
 use Rattle.exports.proofs.files.zrn_ubf_image.Lts as lts
 use Rattle.exports.proofs.files.stretch.Reads as stretch-reads
-use Rattle.exports.proofs.files.wide.Reads as wide-reads
+use Rattle.flat.proofs.wide.Reads as wide-reads
 
 -- src/files.rt:142:20
 wide-requires : tie.Need-wide-requires
