@@ -14,7 +14,7 @@ use lib.Dec.{eqb, lit<}
 use lib.ListN.{length, getD, take, drop, set, length-append, length-drop, drop-of-length-le, take-append-drop, List·getD-append}
 use lib.Seq.{take-suc, drop-cons, drop-length, take-length, take-all, take-nil, drop-nil, set-append-seam, append-snoc, paste, sets, take-at, drop-append-add, drop-drop, length-take-le}
 use lib.Seq.{getD-append-add, getD-take, getD-drop}
-use Rattle.octets.specs.Choice.{both}
+use Rattle.octets.specs.Choice.{both, either-way}
 use Rattle.octets.specs.Octets.{textLength, xorWordsFrom, Bytes, little, spelled, numberAt, xorFrom, xorOf, allZero, sameBytes, laid, over}
 
 -- ---- xor
@@ -245,6 +245,12 @@ text-zero s i h z = rw (drop-cons s i 0 h, z)
 pub text-end : (s : List ℕ) (i : ℕ) → length s ≤ i → textLength (drop i s) ≡ 0
 unfolding textLength
 text-end s i h = rw (drop-of-length-le s h)
+
+-- A text is not longer than its bytes.
+pub text-within : (s : List ℕ) → textLength s ≤ length s
+unfolding textLength
+text-within [] = omega arith
+text-within (b ∷ s) = either-way (λ (n : ℕ). n ≤ suc (length s)) (eqb b 0) (λ e. omega arith) (λ e. omega (arith, text-within s))
 
 -- ---- words
 

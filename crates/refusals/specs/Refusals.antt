@@ -55,24 +55,45 @@ abbrev pub textOf : String → List ℕ
 textOf String.[] = []
 textOf (String._∷_ c cs) = code c ∷ textOf cs
 
--- The words of a number; a number that the table does not have says so.
+-- A row of the table of words.
+pub record Row : Type 0 where
+  pub number : ℕ
+  pub words : List ℕ
+
+abbrev pub row : ℕ → String → Row
+row number words = record { number = number; words = textOf words }
+
+-- The table of words, one row a number.
+abbrev pub table : List Row
+table =
+    row payloadTooLong "payload over 1,030 bytes"
+    ∷ row noRoom "output too small"
+    ∷ row wrongLength "flash or image of the wrong length"
+    ∷ row fileEnds "file ends inside a block"
+    ∷ row wrongMark "mark is not AT"
+    ∷ row wrongType "type or address not known"
+    ∷ row wrongStart "image starts inside the header"
+    ∷ row wrongImageLength "image length not allowed"
+    ∷ row notZeroFilled "gap or text not filled with zeros"
+    ∷ row wrongImageCheck "image check differs"
+    ∷ row wrongPieces "piece size 0 or too many pieces"
+    ∷ row noAnswer "no fitting answer after 3 repeats"
+    ∷ row moduleRefused "the module refused"
+    ∷ row badNotice "the module reports a failure"
+    ∷ []
+
+-- A number that the table does not have says so.
+abbrev pub unknownWords : List ℕ
+unknownWords = textOf "unknown refusal number"
+
+-- The words of a number in a table.
+abbrev pub wordsIn : List Row → ℕ → List ℕ
+wordsIn [] n = unknownWords
+wordsIn (r ∷ rs) n = cond (eqb (r .number) n) (r .words) (wordsIn rs n)
+
+-- The words of a number.
 unfoldable pub wordsOf : ℕ → List ℕ
-wordsOf n =
-    cond (eqb n payloadTooLong) (textOf "payload over 1,030 bytes")
-    (cond (eqb n noRoom) (textOf "output too small")
-    (cond (eqb n wrongLength) (textOf "flash or image of the wrong length")
-    (cond (eqb n fileEnds) (textOf "file ends inside a block")
-    (cond (eqb n wrongMark) (textOf "mark is not AT")
-    (cond (eqb n wrongType) (textOf "type or address not known")
-    (cond (eqb n wrongStart) (textOf "image starts inside the header")
-    (cond (eqb n wrongImageLength) (textOf "image length not allowed")
-    (cond (eqb n notZeroFilled) (textOf "gap or text not filled with zeros")
-    (cond (eqb n wrongImageCheck) (textOf "image check differs")
-    (cond (eqb n wrongPieces) (textOf "piece size 0 or too many pieces")
-    (cond (eqb n noAnswer) (textOf "no fitting answer after 3 repeats")
-    (cond (eqb n moduleRefused) (textOf "the module refused")
-    (cond (eqb n badNotice) (textOf "the module reports a failure")
-    (textOf "unknown refusal number"))))))))))))))
+wordsOf n = wordsIn table n
 
 -- What saying a text leaves: how many bytes of it stand at the front of the output, and the output.
 pub record Said : Type 0 where
