@@ -7,7 +7,7 @@ use Rattle.refusals.specs.Refusals.{textOf}
 use Rattle.kinds.specs.Kinds.{numberOf, tokenOf}
 use Rattle.kinds.specs.declared.Kind.{Kind}
 use Rattle.pieces.specs.Pieces.{countOf, pieceOf}
-use Rattle.wire.specs.Frame.{Frame}
+use Rattle.wire.specs.Frame.{Frame, frame}
 
 -- The commands, and the notice.
 abbrev pub rateCommand : ℕ
@@ -44,9 +44,6 @@ largestPacket = 1024
 
 abbrev pub largestTotal : ℕ
 largestTotal = 65535
-
-abbrev pub frame : ℕ → List ℕ → Frame
-frame command payload = record { command = command; payload = payload }
 
 -- ---- what the host sends
 

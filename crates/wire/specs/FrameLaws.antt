@@ -1,6 +1,6 @@
 -- The laws of content: what is made of a frame is content, and content is made of its frame.
 use Prim.Native.Nat.{ℕ, suc, _+_, _-_, _≤_, _<_}
-use mathlib.Core.Bool.{true}
+use mathlib.Core.Bool.{Bool, true, false, cond, false≢true}
 use mathlib.Core.List.{List, [], _∷_}
 use mathlib.Core.Path.{_≡_, refl, sym, ap, _∙_}
 use native.Mathlib.Omega.{arith}
@@ -8,12 +8,13 @@ use borrow.Author.Tests.{le-leb, leb-true, eq-eqb, eqb-true}
 use lib.Dec.{eqb, leb}
 use lib.ListN.{length, getD, take, drop, length-append, length-take, length-drop}
 use lib.Seq.{take-at, getD-at, take-add, take-suc, take-all, drop-cons, length-take-le}
-use Rattle.octets.specs.Choice.{both}
 use Rattle.octets.specs.Lists.{bytes-take, bytes-drop, byte-at}
 use Rattle.octets.specs.Octets.{Bytes, numberAt, spelled, xorOf}
 use Rattle.octets.specs.OctetsLaws.{little-spelled, spelled-little}
-use Rattle.wire.specs.Frame.{Frame, Acceptable, device, longestPayload, longestContent}
-use Rattle.wire.specs.Frame.{uncheckedOf, contentOf, isContent, frameIn}
+use Rattle.wire.specs.Frame.{Frame, frame, Acceptable, device, longestPayload, shortestContent, longestContent}
+use Rattle.wire.specs.Frame.{uncheckedOf, contentOf, verdictOf, isGood, isContent, frameIn}
+use Rattle.wire.specs.declared.content.Verdict.{Verdict}
+use Rattle.wire.specs.declared.content.Verdict.the-variants.{Bad}
 
 -- ---- the lengths
 
@@ -31,7 +32,7 @@ length-content f = simp (length-append, length-unchecked) (omega arith)
 
 -- The five facts that make bytes the content of a frame.
 record Parts (c : List ℕ) : Type 0 where
-  long : 5 ≤ length c
+  long : shortestContent ≤ length c
   short : length c ≤ longestContent
   counted : numberAt 2 c 0 ≡ length c - 2
   ours : getD c 2 0 ≡ device
@@ -39,30 +40,36 @@ record Parts (c : List ℕ) : Type 0 where
 
 -- Where the facts hold, the test does.
 test-of-parts : (c : List ℕ) → Parts c → isContent c ≡ true
-unfolding isContent
+unfolding isContent verdictOf
 test-of-parts c p =
     rw (
-      le-leb 5 (length c) (p .long),
+      le-leb shortestContent (length c) (p .long),
       le-leb (length c) longestContent (p .short),
       eq-eqb (numberAt 2 c 0) (length c - 2) (p .counted),
       eq-eqb (getD c 2 0) device (p .ours),
+      eq-eqb (getD c (length c - 1) 0) (xorOf (take (length c - 1) c)) (p .checked),
     )
-    (eq-eqb (getD c (length c - 1) 0) (xorOf (take (length c - 1) c)) (p .checked))
+
+-- A good verdict has passed each test on its way.
+passed : (t : Bool) (v : Verdict) → isGood (cond t v Bad) ≡ true → (t ≡ true) × (isGood v ≡ true)
+passed true v h = (refl, h)
+passed false v h = absurd (false≢true h)
 
 -- Where the test holds, the facts do.
 parts-of-test : (c : List ℕ) → isContent c ≡ true → Parts c
-unfolding isContent
+unfolding isContent verdictOf
 parts-of-test c h =
-    let size = both (leb 5 (length c)) _ h in
-    let most = both (leb (length c) longestContent) _ (size .1) in
-    let count = both (eqb (numberAt 2 c 0) (length c - 2)) _ (most .1) in
-    let ends = both (eqb (getD c 2 0) device) _ (count .1) in
+    let size = passed (leb shortestContent (length c)) _ h in
+    let most = passed (leb (length c) longestContent) _ (size .1) in
+    let count = passed (eqb (numberAt 2 c 0) (length c - 2)) _ (most .1) in
+    let ends = passed (eqb (getD c 2 0) device) _ (count .1) in
+    let check = passed (eqb (getD c (length c - 1) 0) (xorOf (take (length c - 1) c))) _ (ends .1) in
     record {
-      long = leb-true 5 (length c) (size .0);
+      long = leb-true shortestContent (length c) (size .0);
       short = leb-true (length c) longestContent (most .0);
       counted = eqb-true (numberAt 2 c 0) (length c - 2) (count .0);
       ours = eqb-true (getD c 2 0) device (ends .0);
-      checked = eqb-true (getD c (length c - 1) 0) (xorOf (take (length c - 1) c)) (ends .1);
+      checked = eqb-true (getD c (length c - 1) 0) (xorOf (take (length c - 1) c)) (check .0);
     }
 
 -- Content is never shorter than five bytes.
@@ -93,7 +100,7 @@ pub frame-in-content : (f : Frame) → frameIn (contentOf f) ≡ f
 unfolding contentOf uncheckedOf spelled
 frame-in-content f =
     let size : length (f .payload) ≡ length (contentOf f) - 5 = omega (arith, length-content f) in
-    ap (λ (p : List ℕ). record { command = f .command; payload = p })
+    ap (λ (p : List ℕ). frame (f .command) p)
     (take-at (f .payload) (xorOf (uncheckedOf f) ∷ []) (length (contentOf f) - 5) size)
 
 -- ---- from content to its frame and back

@@ -4,9 +4,13 @@ mod content;
 mod escape;
 mod writer;
 
+pub use content::CONTENT_LEAST;
 pub use content::CONTENT_MOST;
 pub use content::PAYLOAD_MOST;
+pub use content::Verdict;
 pub use content::is_content;
+pub use content::judge;
+
 pub use escape::ESCAPE;
 pub use escape::HEAD;
 pub use escape::TAIL;

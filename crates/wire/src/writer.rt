@@ -5,7 +5,7 @@ ghost use lib.ListN.{length};
 ghost use lib.Seq.{sets};
 ghost use Rattle.octets.specs.Octets.{over};
 ghost use Rattle.wire.specs.Escape.{escapeOf};
-ghost use Rattle.wire.specs.Frame.{wireForm};
+ghost use Rattle.wire.specs.Frame.{frame, wireForm};
 ghost use Rattle.wire.specs.Write.{writeOf};
 use crate::content::PAYLOAD_MOST;
 use crate::content::content_of;
@@ -19,7 +19,7 @@ use refusals::Written;
 // Writes the wire form of a frame into the output.
 pub fn write(command: u8, payload: &[u8], out: &mut [u8]) -> Written
     ensures { λ r. ⌜ record { answer = r; output = now (out .exit) }
-        ≡ writeOf (record { command = command; payload = now (payload .entry) }) (now (out .entry)) ⌝ }
+        ≡ writeOf (frame command (now (payload .entry))) (now (out .entry)) ⌝ }
 {
     let n = payload.len();
     if PAYLOAD_MOST < n {

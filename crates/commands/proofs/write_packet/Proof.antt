@@ -9,7 +9,8 @@ use Rattle.octets.specs.Octets.{laid, spelled}
 use Rattle.pieces.specs.Pieces.{pieceOf}
 use Rattle.wire.specs.Write.{writeOf}
 use Rattle.wire.specs.WriteLaws.{write-too-long}
-use Rattle.commands.specs.Commands.{packetCommand, frame, packetFrame}
+use Rattle.wire.specs.Frame.{frame}
+use Rattle.commands.specs.Commands.{packetCommand, packetFrame}
 use Rattle.commands.specs.CommandsLaws.{length-packet, packet-built}
 use borrow.Author.Needs.{needs}
 use Rattle.commands.proofs.write_packet.Statement.{statement}

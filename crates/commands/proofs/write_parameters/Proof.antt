@@ -7,7 +7,8 @@ use native.Mathlib.Omega.{arith}
 use lib.ListN.{length, replicate, length-replicate}
 use Rattle.octets.specs.Octets.{laid, spelled}
 use Rattle.wire.specs.Write.{writeOf}
-use Rattle.commands.specs.Commands.{parametersCommand, frame, parametersFrame}
+use Rattle.wire.specs.Frame.{frame}
+use Rattle.commands.specs.Commands.{parametersCommand, parametersFrame}
 use Rattle.commands.specs.CommandsLaws.{length-parameters, parameters-built}
 use Rattle.commands.proofs.write_parameters.Statement.{statement}
 use Rattle.commands.proofs.write_parameters.Tie as tie

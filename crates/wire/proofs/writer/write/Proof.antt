@@ -4,7 +4,7 @@ use native.Mathlib.Omega.{arith}
 use lib.ListN.{length, length-take}
 use lib.Seq.{length-take-le}
 use Rattle.octets.specs.Octets.{over}
-use Rattle.wire.specs.Frame.{Frame, wireForm, wireOf}
+use Rattle.wire.specs.Frame.{Frame, frame, wireForm, wireOf}
 use Rattle.wire.specs.WriteLaws.{write-too-long, write-no-room, write-done}
 use borrow.Author.Needs.{needs}
 use Rattle.wire.proofs.writer.write.Statement.{statement}
@@ -32,7 +32,7 @@ returns-2 : tie.Need-returns-2
 unfolding wireOf
 returns-2 c =
     let a = c .before .before .before .before .before .before .before .args in
-    let f : Frame = record { command = a .command; payload = a .payload .now } in
+    let f : Frame = frame (a .command) (a .payload .now) in
     let size : c .before .size-of .result ≡ length (wireOf f) =
     c .before .size-of .ensures ∙ ap (λ l. length (wireForm l)) (c .before .before .before .content-of .ensures .1) in
     sym (write-no-room f (a .out .now) (c .before .before .before .before .if1 .left) (omega arith))
@@ -59,7 +59,7 @@ returns-3 c =
     let measured = c .before .before .before .before .before .before .size-of in
     let built = c .before .before .before .before .before .before .before .before .content-of in
     let few = c .before .before .before .before .before .before .before .before .before .if1 .left in
-    let f : Frame = record { command = a .command; payload = a .payload .now } in
+    let f : Frame = frame (a .command) (a .payload .now) in
     let size : measured .result ≡ length (wireOf f) = measured .ensures ∙ ap (λ l. length (wireForm l)) (built .ensures .1) in
     let put : c .before .before .lay .last .1 .0 ≡ over (wireOf f) (a .out .now) =
     c .before .before .lay .ensures ∙ ap (λ l. over (wireForm l) (a .out .now)) (built .ensures .1) in
