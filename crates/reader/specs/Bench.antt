@@ -5,7 +5,7 @@ use mathlib.Core.Path.{_≡_, refl, _∙_}
 use lib.ListN.{length}
 use Rattle.octets.specs.Octets.{little, spelled, numberAt, xorFrom}
 use Rattle.wire.specs.Escape.{isMark, secondOf, mayFollow, originalOf, escapeOf, escaped}
-use Rattle.wire.specs.Frame.{uncheckedOf, contentOf, wireForm, wireOf, isContent}
+use Rattle.wire.specs.Frame.{uncheckedOf, contentOf, wireForm, wireOf, verdictOf, isContent}
 use Rattle.reader.specs.Runs.{Placed, placed}
 use Rattle.reader.specs.Table.{Row, benchTable, printedRow}
 use Rattle.reader.specs.Promises.{BenchTable, PrintedRow}
@@ -36,7 +36,7 @@ all-written = refl
 
 -- Every row's bytes are read as the row's frame, and the printed row as none.
 all-read : (map readOf benchTable ≡ map frameOf benchTable) × (seenHanded outside 0 printedRow ≡ [])
-unfolding seenHanded sightOf insideSight tailSight followSight contentSight mayFollow originalOf isContent numberAt little xorFrom
+unfolding seenHanded sightOf insideSight tailSight followSight contentSight mayFollow originalOf isContent verdictOf numberAt little xorFrom
 all-read = (refl, refl)
 
 -- The bench table, row by row.

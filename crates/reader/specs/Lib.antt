@@ -1,5 +1,7 @@
 -- The step that the contracts cite (Reader), the runs and the table that the promises speak of, the promises, and below them
 -- their proofs: the reader as the promises see it (Seen), what a wire form brings (Feed), and a file for each promise.
+pub mod Moves
+pub mod MovesLaws
 pub mod Reader
 pub mod Runs
 pub mod Table

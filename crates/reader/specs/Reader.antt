@@ -1,12 +1,16 @@
 -- The reader, a byte at a time: what a step answers and the reader after it.
 use Prim.Native.Nat.{ℕ, _+_, _-_}
-use mathlib.Core.Bool.{Bool, true, false, cond, not, _&&_}
+use mathlib.Core.Bool.{Bool, true, false, cond}
 use mathlib.Core.List.{List, [], _∷_}
-use lib.Dec.{eqb, leb, ltb}
+use lib.Dec.{leb}
 use lib.ListN.{getD, take, set, replicate}
 use Rattle.octets.specs.Octets.{partOf}
-use Rattle.wire.specs.Escape.{headMark, escapeMark, tailMark, mayFollow, originalOf}
-use Rattle.wire.specs.Frame.{Frame, longestContent, isContent}
+use Rattle.wire.specs.Frame.{Frame, frame, shortestContent, longestContent, verdictOf}
+use Rattle.wire.specs.declared.content.Verdict.{Verdict}
+use Rattle.wire.specs.declared.content.Verdict.the-variants.{Good, Bad}
+use Rattle.reader.specs.Moves.{moveOf}
+use Rattle.reader.specs.declared.moves.Move.{Move}
+use Rattle.reader.specs.declared.moves.Move.the-variants.{Pass, Begin, Wait, Put, Drop, End}
 use Rattle.reader.specs.declared.steps.Reader.{Reader}
 use Rattle.reader.specs.declared.steps.Heard.{Heard}
 use Rattle.reader.specs.declared.steps.Heard.the-variants.{Nothing, Frame as Whole, Dropped}
@@ -43,35 +47,23 @@ putOf r b = record { store = set (r .store) (r .count) b; count = r .count + 1; 
 abbrev pub answers : Heard → Reader → Stepped
 answers heard r = record { reader = r; heard = heard }
 
--- Content byte 1,036 gives dropped and closes.
-unfoldable pub contentStep : Reader → ℕ → Stepped
-contentStep r b = cond (ltb (r .count) longestContent) (answers Nothing (putOf r b)) (answers Dropped (closedOf r))
+-- The content is judged at its tail: the frame is handed out, or dropped; both close.
+abbrev pub judgedBy : Verdict → Reader → Stepped
+judgedBy Good r = answers (Whole (getD (r .store) 3 0) (r .count - shortestContent)) (closedOf r)
+judgedBy Bad r = answers Dropped (closedOf r)
 
--- The byte after the escape stands for a content byte, or the frame is dropped and closed.
-unfoldable pub followStep : Reader → ℕ → Stepped
-followStep r b = cond (mayFollow b) (contentStep r (originalOf b)) (answers Dropped (closedOf r))
+-- What a move answers and leaves. Where a head opens a frame inside another, that one is dropped.
+abbrev pub movedBy : Move → Reader → Stepped
+movedBy Pass r = answers Nothing r
+movedBy Begin r = answers (cond (r .opened) Dropped Nothing) (openedOf r)
+movedBy Wait r = answers Nothing (waitingOf r)
+movedBy (Put b) r = answers Nothing (putOf r b)
+movedBy Drop r = answers Dropped (closedOf r)
+movedBy End r = judgedBy (verdictOf (heldOf r)) r
 
--- The tail closes. A frame is handed out if no escape is pending and the content is a frame's.
-unfoldable pub tailStep : Reader → Stepped
-tailStep r =
-    cond (not (r .pending) && isContent (heldOf r)) (answers (Whole (getD (r .store) 3 0) (r .count - 5)) (closedOf r))
-    (answers Dropped (closedOf r))
-
--- Inside a frame.
-unfoldable pub insideStep : Reader → ℕ → Stepped
-insideStep r b =
-    cond (eqb b tailMark) (tailStep r)
-    (cond (r .pending) (followStep r b) (cond (eqb b escapeMark) (answers Nothing (waitingOf r)) (contentStep r b)))
-
--- The head always opens a frame, and if one was open that one is dropped.
-unfoldable pub headStep : Reader → Stepped
-headStep r = answers (cond (r .opened) Dropped Nothing) (openedOf r)
-
--- Outside a frame every byte but the head gives nothing.
+-- One step of a reader whose count is at most 1,035.
 unfoldable pub knownStep : Reader → ℕ → Stepped
-knownStep r b =
-    cond (eqb b headMark) (headStep r)
-    (cond (r .opened) (insideStep r b) (answers Nothing r))
+knownStep r b = movedBy (moveOf (r .count) (r .opened) (r .pending) b) r
 
 -- One step of any reader.
 unfoldable pub stepOf : Reader → ℕ → Stepped
@@ -84,7 +76,7 @@ payloadIn store n = partOf store 4 n
 -- What an answer says: the frames that it hands out, one or none.
 abbrev pub framesIn : Heard → Reader → List Frame
 framesIn Nothing r = []
-framesIn (Whole command n) r = record { command = command; payload = payloadIn (r .store) n } ∷ []
+framesIn (Whole command n) r = frame command (payloadIn (r .store) n) ∷ []
 framesIn Dropped r = []
 
 abbrev pub framesOf : Stepped → List Frame

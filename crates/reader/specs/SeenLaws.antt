@@ -12,18 +12,23 @@ use lib.ListN.{length, getD, take, set, length-set, length-replicate}
 use lib.Seq.{length-take-le, take-suc-set, getD-take}
 use Rattle.octets.specs.Octets.{partOf}
 use Rattle.wire.specs.Escape.{headMark, escapeMark, tailMark, mayFollow, originalOf}
-use Rattle.wire.specs.Frame.{Frame, longestContent, isContent, frameIn}
+use Rattle.wire.specs.Frame.{Frame, frame, shortestContent, longestContent, verdictOf, isGood, isContent, frameIn}
+use Rattle.wire.specs.declared.content.Verdict.{Verdict}
+use Rattle.wire.specs.declared.content.Verdict.the-variants.{Good, Bad}
 use Rattle.wire.specs.FrameLaws.{content-long}
-use Rattle.reader.specs.Reader.{fresh, knownOf, heldOf, closedOf, waitingOf, openedOf, answers}
+use Rattle.reader.specs.Reader.{fresh, knownOf, heldOf, closedOf, openedOf, answers}
 use Rattle.reader.specs.Reader.{payloadIn, framesIn, framesOf}
-use Rattle.reader.specs.Reader.{contentStep, followStep, tailStep, insideStep, headStep, knownStep, stepOf}
+use Rattle.reader.specs.Reader.{judgedBy, movedBy, knownStep, stepOf}
+use Rattle.reader.specs.Moves.{contentMove, followMove, tailMove, insideMove, moveOf}
 use Rattle.reader.specs.Runs.{later, handedFrom, handedOf}
 use Rattle.reader.specs.Promises.{Any}
-use Rattle.octets.specs.Choice.{by-test, either-way, both}
+use Rattle.octets.specs.Choice.{by-test, either-way}
 use Rattle.octets.specs.Lists.{part-take}
 use Rattle.reader.specs.Seen.{Seen, outside, within, seenIn, seenOf, Sight, quiet, hands}
 use Rattle.reader.specs.Seen.{seenStep, seenFrames, seenAfter, seenHanded}
 use Rattle.reader.specs.Seen.{contentSight, followSight, tailSight, insideSight, pastSight, sightOf}
+use Rattle.reader.specs.declared.moves.Move.{Move}
+use Rattle.reader.specs.declared.moves.Move.the-variants.{Pass, Begin, Wait}
 use Rattle.reader.specs.declared.steps.Reader.{Reader}
 use Rattle.reader.specs.declared.steps.Stepped.{Stepped}
 use Rattle.reader.specs.declared.steps.Heard.the-variants.{Dropped, Nothing}
@@ -66,11 +71,15 @@ module _ (store : List ℕ) (count : ℕ) (size : length store ≡ longestConten
   put-held : (b : ℕ) → count < longestContent → take (count + 1) (set store count b) ≡ take count store ++ (b ∷ [])
   put-held b h = rw add-one (take-suc-set store count b (omega arith))
 
+  -- A move of a reader inside a frame is seen as this.
+  abbrev MoveAs : Bool → Move → Sight → Type 0
+  MoveAs p move sight = SeenAs (movedBy move (insideOf store count p)) sight
+
   -- A content byte is put behind the content so far, or the frame is dropped.
-  content-seen : (p : Bool) (b : ℕ) → SeenAs (contentStep (insideOf store count p) b) (contentSight (take count store) b)
-  unfolding contentStep contentSight heldOf
+  content-seen : (p : Bool) (b : ℕ) → MoveAs p (contentMove count b) (contentSight (take count store) b)
+  unfolding contentMove contentSight heldOf
   content-seen p b =
-      rw held-long (by-test SeenAs (ltb count longestContent)
+      rw held-long (by-test (MoveAs p) (ltb count longestContent)
       (λ e. let room : count < longestContent = ltb-true count longestContent e in record {
         known = record { size = length-set store count b ∙ size; low = omega arith };
         after = ap (within false) (put-held b room);
@@ -79,58 +88,54 @@ module _ (store : List ℕ) (count : ℕ) (size : length store ≡ longestConten
       (λ e. dropped-seen p))
 
   -- The byte after the escape is the content byte that it stands for, or the frame is dropped.
-  follow-seen : (p : Bool) (b : ℕ) → SeenAs (followStep (insideOf store count p) b) (followSight (take count store) b)
-  unfolding followStep followSight
-  follow-seen p b = by-test SeenAs (mayFollow b) (λ e. content-seen p (originalOf b)) (λ e. dropped-seen p)
+  follow-seen : (p : Bool) (b : ℕ) → MoveAs p (followMove count b) (followSight (take count store) b)
+  unfolding followMove followSight
+  follow-seen p b = by-test (MoveAs p) (mayFollow b) (λ e. content-seen p (originalOf b)) (λ e. dropped-seen p)
 
   -- The frame that lies in the store is the one that the content so far carries.
-  frame-held : 5 ≤ count
-      → _≡_ {A = Frame} (record { command = getD store 3 0; payload = payloadIn store (count - 5) }) (frameIn (take count store))
+  frame-held : shortestContent ≤ count
+      → _≡_ {A = Frame} (frame (getD store 3 0) (payloadIn store (count - shortestContent))) (frameIn (take count store))
   unfolding partOf
   frame-held h = rw (held-long, getD-take count store 3 0 (omega arith), part-take (count - 5) 4 count store (omega arith))
 
-  -- Where the content so far passes the test, the count is at least 5.
-  held-content : (a : Bool) → (a && isContent (take count store)) ≡ true → 5 ≤ count
-  held-content a e =
-      let good : isContent (take count store) ≡ true = both a (isContent (take count store)) e .1 in
-      omega (arith, content-long (take count store) good, held-long)
+  -- Where the content so far is judged good, its frame is handed out, else none.
+  judged-seen : (p : Bool) (v : Verdict) → verdictOf (take count store) ≡ v
+      → SeenAs (judgedBy v (insideOf store count p)) (cond (isGood v) (hands (frameIn (take count store))) (quiet outside))
+  unfolding isContent heldOf
+  judged-seen p Good e =
+      let long = content-long (take count store) (ap isGood e) in
+      record { known = still false false; after = refl; handed = ap (λ (f : Frame). f ∷ []) (frame-held (omega (arith, long, held-long))) }
+  judged-seen p Bad e = dropped-seen p
 
   -- The tail hands out the frame that the content so far carries, or none.
-  tail-seen : (p : Bool) → SeenAs (tailStep (insideOf store count p)) (tailSight p (take count store))
-  unfolding tailStep tailSight heldOf
-  tail-seen p =
-      by-test SeenAs (not p && isContent (take count store))
-      (λ e. record {
-        known = still false false;
-        after = refl;
-        handed = ap (λ (f : Frame). f ∷ []) (frame-held (held-content (not p) e));
-      })
-      (λ e. dropped-seen p)
+  tail-seen : (p : Bool) → MoveAs p (tailMove p) (tailSight p (take count store))
+  unfolding tailMove tailSight isContent heldOf
+  tail-seen true = dropped-seen true
+  tail-seen false = judged-seen false (verdictOf (take count store)) refl
 
   -- The escape waits for the next byte.
-  waiting-seen : (p : Bool)
-      → SeenAs (answers Nothing (waitingOf (insideOf store count p))) (quiet (within true (take count store)))
+  waiting-seen : (p : Bool) → MoveAs p Wait (quiet (within true (take count store)))
   unfolding heldOf
   waiting-seen p = record { known = still true true; after = refl; handed = refl }
 
   -- Every byte inside a frame but the head.
-  inside-seen : (p : Bool) (b : ℕ) → SeenAs (insideStep (insideOf store count p) b) (insideSight p (take count store) b)
-  unfolding insideStep insideSight
+  inside-seen : (p : Bool) (b : ℕ) → MoveAs p (insideMove count p b) (insideSight p (take count store) b)
+  unfolding insideMove insideSight
   inside-seen p b =
-      by-test SeenAs (eqb b tailMark) (λ t. tail-seen p) (λ t.
-      by-test SeenAs p (λ w. follow-seen p b) (λ w.
-      by-test SeenAs (eqb b escapeMark) (λ e. waiting-seen p) (λ e. content-seen p b)))
+      by-test (MoveAs p) (eqb b tailMark) (λ t. tail-seen p) (λ t.
+      by-test (MoveAs p) p (λ w. follow-seen p b) (λ w.
+      by-test (MoveAs p) (eqb b escapeMark) (λ e. waiting-seen p) (λ e. content-seen p b)))
 
   -- Any byte but the head, inside a frame or not.
   past-seen : (o p : Bool) (b : ℕ)
-      → SeenAs (cond o (insideStep (readerOf o store count p) b) (answers Nothing (readerOf o store count p)))
+      → SeenAs (movedBy (cond o (insideMove count p b) Pass) (readerOf o store count p))
       (pastSight (cond o (within p (take count store)) outside) b)
   past-seen true p b = inside-seen p b
   past-seen false p b = record { known = still false p; after = refl; handed = refl }
 
 -- The head opens a frame, and hands out nothing.
-head-seen : (r : Reader) → Known r → SeenAs (headStep r) (quiet (within false []))
-unfolding headStep heldOf
+head-seen : (r : Reader) → Known r → SeenAs (movedBy Begin r) (quiet (within false []))
+unfolding heldOf
 head-seen r k = record { known = record { size = k .size; low = omega arith }; after = refl; handed = none (r .opened) }
   where
     none : (o : Bool) → _≡_ {A = List Frame} (framesIn (cond o Dropped Nothing) (openedOf r)) []
@@ -139,9 +144,9 @@ head-seen r k = record { known = record { size = k .size; low = omega arith }; a
 
 -- Every byte to a known reader.
 known-seen : (r : Reader) → Known r → (b : ℕ) → SeenAs (knownStep r b) (sightOf (seenIn r) b)
-unfolding knownStep sightOf heldOf
+unfolding knownStep moveOf sightOf heldOf
 known-seen r k b =
-    by-test SeenAs (eqb b headMark) (λ h. head-seen r k)
+    by-test (λ (move : Move) (sight : Sight). SeenAs (movedBy move r) sight) (eqb b headMark) (λ h. head-seen r k)
     (λ h. past-seen (r .store) (r .count) (k .size) (k .low) (r .opened) (r .pending) b)
 
 -- A fresh reader is known.

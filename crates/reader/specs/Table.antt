@@ -1,14 +1,14 @@
 -- Document 01's bench examples that are marked T, as one table: a frame and its bytes on the wire.
 use Prim.Native.Nat.{ℕ}
 use mathlib.Core.List.{List, [], _∷_}
-use Rattle.wire.specs.Frame.{Frame}
+use Rattle.wire.specs.Frame.{Frame, frame}
 
 pub record Row : Type 0 where
   pub frame : Frame
   pub bytes : List ℕ
 
 abbrev row : ℕ → List ℕ → List ℕ → Row
-row command payload bytes = record { frame = record { command = command; payload = payload }; bytes = bytes }
+row command payload bytes = record { frame = frame command payload; bytes = bytes }
 
 abbrev pub benchTable : List Row
 benchTable =

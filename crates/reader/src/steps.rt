@@ -1,9 +1,12 @@
 // The reader's state and its step.
 ghost use mathlib.Core.Path.{_≡_};
-ghost use Prim.Native.Nat.{_≤_};
+ghost use Prim.Native.Nat.{_≤_, _<_};
 ghost use lib.ListN.{take};
-ghost use Rattle.wire.specs.Frame.{isContent};
-ghost use Rattle.reader.specs.Reader.{fresh, knownOf, closedOf, answers, headStep, contentStep, followStep, tailStep, insideStep, stepOf, payloadIn};
+ghost use Rattle.wire.specs.Frame.{verdictOf};
+ghost use Rattle.reader.specs.Reader.{fresh, knownOf, closedOf, answers, movedBy, stepOf, payloadIn};
+use crate::moves::Move;
+use crate::moves::move_of;
+use wire::Verdict;
 
 // The content so far stands in the first count bytes of the store.
 pub struct Reader {
@@ -43,123 +46,74 @@ impl Reader {
         ensures { λ r. ⌜ r ≡ stepOf self byte ⌝ }
     {
         let known = self.known();
-        if byte == wire::HEAD {
-            return known.head();
-        }
-        if known.opened {
-            return known.inside(byte);
-        }
-        Stepped {
-            reader: known,
-            heard: Heard::Nothing,
+        let go = move_of(known.count, known.opened, known.pending, byte);
+        match go {
+            Move::Pass => known.answers(Heard::Nothing),
+            Move::Begin => known.begins(),
+            Move::Wait => known.waits(),
+            Move::Put(content) => known.puts(content),
+            Move::Drop => known.closed().answers(Heard::Dropped),
+            Move::End => known.ends(),
         }
     }
 
     fn known(self) -> Reader
         ensures { λ r. ⌜ (r ≡ knownOf self) × (r .count ≤ 1035) ⌝ }
     {
-        if self.count <= 1035 {
+        if self.count <= wire::CONTENT_MOST {
             return self;
         }
         Reader::new()
     }
 
     // The head opens a frame, whatever went before.
-    fn head(self) -> Stepped
-        ensures { λ r. ⌜ r ≡ headStep self ⌝ }
+    fn begins(self) -> Stepped
+        ensures { λ r. ⌜ r ≡ movedBy Move.Begin self ⌝ }
     {
         let mut next = self;
         next.count = 0;
         next.opened = true;
         next.pending = false;
         if self.opened {
-            return Stepped {
-                reader: next,
-                heard: Heard::Dropped,
-            };
+            return next.answers(Heard::Dropped);
         }
-        Stepped {
-            reader: next,
-            heard: Heard::Nothing,
-        }
+        next.answers(Heard::Nothing)
     }
 
-    fn inside(self, byte: u8) -> Stepped
-        requires { ⌜ self .count ≤ 1035 ⌝ }
-        ensures { λ r. ⌜ r ≡ insideStep self byte ⌝ }
+    fn waits(self) -> Stepped
+        ensures { λ r. ⌜ r ≡ movedBy Move.Wait self ⌝ }
     {
-        if byte == wire::TAIL {
-            return self.tail();
-        }
-        if self.pending {
-            return self.follow(byte);
-        }
-        if byte == wire::ESCAPE {
-            let mut next = self;
-            next.pending = true;
-            return Stepped {
-                reader: next,
-                heard: Heard::Nothing,
-            };
-        }
-        self.content(byte)
+        let mut next = self;
+        next.pending = true;
+        next.answers(Heard::Nothing)
     }
 
-    // The byte after the escape.
-    fn follow(self, byte: u8) -> Stepped
-        ensures { λ r. ⌜ r ≡ followStep self byte ⌝ }
-    {
-        if wire::may_follow(byte) {
-            return self.content(wire::original(byte));
-        }
-        self.dropped()
-    }
-
-    fn content(self, byte: u8) -> Stepped
-        ensures { λ r. ⌜ r ≡ contentStep self byte ⌝ }
+    fn puts(self, byte: u8) -> Stepped
+        requires { ⌜ self .count < 1035 ⌝ }
+        ensures { λ r. ⌜ r ≡ movedBy (Move.Put byte) self ⌝ }
     {
         let at = self.count;
-        if at < 1035 {
-            let mut next = self;
-            next.store[at] = byte;
-            next.count = at + 1;
-            next.pending = false;
-            return Stepped {
-                reader: next,
-                heard: Heard::Nothing,
-            };
-        }
-        self.dropped()
+        let mut next = self;
+        next.store[at] = byte;
+        next.count = at + 1;
+        next.pending = false;
+        next.answers(Heard::Nothing)
     }
 
     // The tail closes, and hands out the frame if there is one.
-    fn tail(self) -> Stepped
+    fn ends(self) -> Stepped
         requires { ⌜ self .count ≤ 1035 ⌝ }
-        ensures { λ r. ⌜ r ≡ tailStep self ⌝ }
+        ensures { λ r. ⌜ r ≡ movedBy Move.End self ⌝ }
     {
-        if self.pending {
-            return self.dropped();
-        }
         let store = self.store;
         let count = self.count;
-        if holds_content(&store, count) {
-            return Stepped {
-                reader: self.closed(),
-                heard: Heard::Frame {
-                    command: store[3],
-                    count: count - 5,
-                },
-            };
-        }
-        self.dropped()
-    }
-
-    fn dropped(self) -> Stepped
-        ensures { λ r. ⌜ r ≡ answers Heard.Dropped (closedOf self) ⌝ }
-    {
-        Stepped {
-            reader: self.closed(),
-            heard: Heard::Dropped,
+        let verdict = judged(&store, count);
+        match verdict {
+            Verdict::Good => self.closed().answers(Heard::Frame {
+                command: store[3],
+                count: count - wire::CONTENT_LEAST,
+            }),
+            Verdict::Bad => self.closed().answers(Heard::Dropped),
         }
     }
 
@@ -171,15 +125,24 @@ impl Reader {
         next.pending = false;
         next
     }
+
+    fn answers(self, heard: Heard) -> Stepped
+        ensures { λ r. ⌜ r ≡ answers heard self ⌝ }
+    {
+        Stepped {
+            reader: self,
+            heard: heard,
+        }
+    }
 }
 
-// Whether the content so far is that of a frame.
-fn holds_content(store: &[u8; 1035], count: usize) -> bool
+// The verdict over the content so far.
+fn judged(store: &[u8; 1035], count: usize) -> Verdict
     requires { ⌜ count ≤ 1035 ⌝ }
-    ensures { λ r. ⌜ r ≡ isContent (take count (now (store .entry))) ⌝ }
+    ensures { λ r. ⌜ r ≡ verdictOf (take count (now (store .entry))) ⌝ }
 {
     let all: &[u8] = store;
-    wire::is_content(&all[..count])
+    wire::judge(&all[..count])
 }
 
 // The payload of a handed-out frame, as a part of the store that the reader carries.

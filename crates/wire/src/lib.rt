@@ -10,7 +10,6 @@ pub use content::PAYLOAD_MOST;
 pub use content::Verdict;
 pub use content::is_content;
 pub use content::judge;
-
 pub use escape::ESCAPE;
 pub use escape::HEAD;
 pub use escape::TAIL;

@@ -1,28 +1,30 @@
--- `Reader::inside`: the tests in the order of the definition.
-use borrow.Author.Tests.{eq-eqb, ne-eqb}
+-- `reader::inside`: the tests in the order of the definition.
 use mathlib.Core.Path.{sym, _∙_}
+use borrow.Author.Tests.{eq-eqb, ne-eqb}
 use Rattle.octets.specs.Choice.{cond-yes, cond-no}
-use Rattle.reader.specs.Reader.{insideStep}
+use Rattle.reader.specs.Moves.{insideMove}
 use borrow.Author.Needs.{needs}
-use Rattle.reader.proofs.steps.Reader.inside.Statement.{statement}
-use Rattle.reader.proofs.steps.Reader.inside.Tie as tie
+use Rattle.reader.proofs.moves.inside.Statement.{statement}
+use Rattle.reader.proofs.moves.inside.Tie as tie
 
 tail-requires : tie.Need-tail-requires
 tail-requires c κs = search needs
 
 returns : tie.Need-returns
-unfolding insideStep
+unfolding insideMove
 returns c = c .tail .ensures ∙ sym (cond-yes _ _ _ (eq-eqb _ _ (c .before .if1 .taken)))
 
 follow-requires : tie.Need-follow-requires
 follow-requires c κs = search needs
 
 returns-2 : tie.Need-returns-2
-unfolding insideStep
-returns-2 c = c .follow .ensures ∙ sym (cond-no _ _ _ (ne-eqb _ _ (c .before .before .if1 .left)) ∙ cond-yes _ _ _ (c .before .if2 .taken))
+unfolding insideMove
+returns-2 c =
+    c .follow .ensures
+    ∙ sym (cond-no _ _ _ (ne-eqb _ _ (c .before .before .if1 .left)) ∙ cond-yes _ _ _ (c .before .if2 .taken))
 
 returns-3 : tie.Need-returns-3
-unfolding insideStep
+unfolding insideMove
 returns-3 c =
     sym (cond-no _ _ _ (ne-eqb _ _ (c .before .before .if1 .left)) ∙ cond-no _ _ _ (c .before .if2 .left) ∙ cond-yes _ _ _ (eq-eqb _ _ (c .if3 .taken)))
 
@@ -30,11 +32,10 @@ content-requires : tie.Need-content-requires
 content-requires c κs = search needs
 
 returns-4 : tie.Need-returns-4
-unfolding insideStep
+unfolding insideMove
 returns-4 c =
     c .content .ensures
-    ∙ sym
-    (cond-no _ _ _ (ne-eqb _ _ (c .before .before .before .if1 .left))
+    ∙ sym (cond-no _ _ _ (ne-eqb _ _ (c .before .before .before .if1 .left))
     ∙ cond-no _ _ _ (c .before .before .if2 .left)
     ∙ cond-no _ _ _ (ne-eqb _ _ (c .before .if3 .left)))
 
