@@ -14,11 +14,11 @@ use Rattle.kinds.specs.declared.Kind.{Kind}
 use Rattle.kinds.specs.declared.Known.{Known}
 use Rattle.kinds.specs.declared.Known.the-variants.{Is, Unknown}
 use Rattle.refusals.specs.Refusals.{fileEnds, wrongMark, wrongType, wrongStart, wrongImageLength, notZeroFilled, wrongImageCheck}
-use Rattle.ubf.specs.Block.{headerSize, markIn, mark, lengthIn, addressIn, startIn, typeIn, filledIn, imageIn, checkIn}
-use Rattle.ubf.specs.Block.{fieldsOf, sizeOf, unless, kindBlock, knownBlock, blockOf}
-use Rattle.ubf.specs.declared.block.Block.{Block}
-use Rattle.ubf.specs.declared.block.Found.{Found}
-use Rattle.ubf.specs.declared.block.Found.the-variants.{Whole}
+use Rattle.ubf_model.specs.Block.{headerSize, markIn, mark, lengthIn, addressIn, startIn, typeIn, filledIn, imageIn, checkIn}
+use Rattle.ubf_model.specs.Block.{fieldsOf, sizeOf, unless, kindBlock, knownBlock, blockOf}
+use Rattle.ubf_model.specs.declared.block.Block.{Block}
+use Rattle.ubf_model.specs.declared.block.Found.{Found}
+use Rattle.ubf_model.specs.declared.block.Found.the-variants.{Whole, Refused}
 
 -- The facts that make the front of some bytes a block of a kind.
 pub record Good (k : Kind) (s : List ℕ) : Type 0 where
@@ -48,6 +48,12 @@ block-of-good k s g =
       g .filled,
       eq-eqb (checkIn s) (xorWords (imageIn s)) (g .checked),
     )
+
+-- The length is tested before the start: one that does not fit is named, wherever the image starts.
+pub length-first : (k : Kind) (s : List ℕ) → addressIn s ≡ baseOf k → fitsFile k (lengthIn s) ≡ false
+    → kindBlock k s ≡ Refused wrongImageLength
+unfolding kindBlock
+length-first k s based unfit = rw (eq-eqb (addressIn s) (baseOf k) based, unfit)
 
 -- A block that was read has a kind, the facts hold, and its fields are those of the bytes.
 pub record ReadGood (s : List ℕ) (b : Block) : Type 0 where

@@ -2,12 +2,12 @@
 use Prim.Native.Nat.{ℕ, zero, suc, _+_}
 use mathlib.Core.List.{List, [], _∷_}
 use lib.ListN.{length, drop}
-use Rattle.ubf.specs.Block.{blockOf, sizeOf}
-use Rattle.ubf.specs.declared.block.Block.{Block}
-use Rattle.ubf.specs.declared.block.Found.{Found}
-use Rattle.ubf.specs.declared.block.Found.the-variants.{Whole, Refused}
-use Rattle.ubf.specs.declared.walk.Nth.{Nth}
-use Rattle.ubf.specs.declared.walk.Nth.the-variants.{Found as NthFound, Past, Refused as NthRefused}
+use Rattle.ubf_model.specs.Block.{blockOf, sizeOf}
+use Rattle.ubf_model.specs.declared.block.Block.{Block}
+use Rattle.ubf_model.specs.declared.block.Found.{Found}
+use Rattle.ubf_model.specs.declared.block.Found.the-variants.{Whole, Refused}
+use Rattle.ubf_model.specs.declared.walk.Nth.{Nth}
+use Rattle.ubf_model.specs.declared.walk.Nth.the-variants.{Found as NthFound, Past, Refused as NthRefused}
 
 -- A block and its place in the file.
 pub record Standing : Type 0 where

@@ -8,11 +8,12 @@ use Rattle.octets.specs.Octets.{Bytes, xorWords}
 use Rattle.kinds.specs.Kinds.{baseOf, numberOf, fitsFile}
 use Rattle.kinds.specs.declared.Kind.{Kind}
 use Rattle.refusals.specs.Written.{written}
-use Rattle.ubf.specs.Block.{headerSize, blockOf, sizeOf, addressIn, startIn, typeIn, modelIn, versionIn, nameIn, dateIn, imageIn}
-use Rattle.ubf.specs.Pack.{Fields, filled, blockBytes, bytesOf, textsIn, packOf}
-use Rattle.ubf.specs.Walk.{Standing, Ending, whole, fault, walkOf}
-use Rattle.ubf.specs.declared.block.Block.{Block}
-use Rattle.ubf.specs.declared.block.Found.the-variants.{Whole, Refused}
+use Rattle.ubf_model.specs.Block.{headerSize, blockOf, sizeOf, addressIn, startIn, typeIn, modelIn, versionIn, nameIn, dateIn, imageIn}
+use Rattle.ubf_model.specs.Block.{modelSize, versionSize, nameSize, dateSize}
+use Rattle.ubf_model.specs.Pack.{Fields, filled, blockBytes, bytesOf, textsIn, packOf}
+use Rattle.ubf_model.specs.Walk.{Standing, Ending, whole, fault, walkOf}
+use Rattle.ubf_model.specs.declared.block.Block.{Block}
+use Rattle.ubf_model.specs.declared.block.Found.the-variants.{Whole, Refused}
 
 -- Fields that pass the writer's tests for a kind: its number and address, an image that fits, a start behind the header that four
 -- bytes can spell, texts that fit.
@@ -34,10 +35,10 @@ PackWrites =
 -- What reading a block gives back of its fields.
 pub record ReadAs (k : Kind) (f : Fields) (s : List ℕ) : Type 0 where
   pub fields : blockOf s ≡ Whole (record { kind = k; length = length (f .image); start = f .start; check = xorWords (f .image) })
-  pub model : modelIn s ≡ filled 16 (f .model)
-  pub version : versionIn s ≡ filled 16 (f .version)
-  pub name : nameIn s ≡ filled 128 (f .name)
-  pub date : dateIn s ≡ filled 32 (f .date)
+  pub model : modelIn s ≡ filled modelSize (f .model)
+  pub version : versionIn s ≡ filled versionSize (f .version)
+  pub name : nameIn s ≡ filled nameSize (f .name)
+  pub date : dateIn s ≡ filled dateSize (f .date)
   pub image : imageIn s ≡ f .image
 
 -- U1 (ReadWritten.antt). What was written is read again, whatever follows it: every field, the texts with their zeros, the image.

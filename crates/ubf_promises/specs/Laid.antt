@@ -5,13 +5,13 @@ use mathlib.Core.Path.{_≡_, refl, ap}
 use native.Mathlib.Omega.{arith}
 use lib.ListN.{length, drop, length-drop}
 use lib.Seq.{drop-drop}
-use Rattle.ubf.specs.Block.{blockOf, sizeOf}
-use Rattle.ubf.specs.BlockLaws.{block-within, block-some}
-use Rattle.ubf.specs.Promises.{EndsFrom, WalkLaid}
-use Rattle.ubf.specs.Walk.{Standing, standing, Ending, whole, fault, Walked, goOn, walkOn, walkBy, walkFrom, walkOf}
-use Rattle.ubf.specs.declared.block.Block.{Block}
-use Rattle.ubf.specs.declared.block.Found.{Found}
-use Rattle.ubf.specs.declared.block.Found.the-variants.{Whole, Refused}
+use Rattle.ubf_model.specs.Block.{blockOf, sizeOf}
+use Rattle.ubf_model.specs.BlockLaws.{block-within, block-some}
+use Rattle.ubf_promises.specs.Promises.{EndsFrom, WalkLaid}
+use Rattle.ubf_model.specs.Walk.{Standing, standing, Ending, whole, fault, Walked, goOn, walkOn, walkBy, walkFrom, walkOf}
+use Rattle.ubf_model.specs.declared.block.Block.{Block}
+use Rattle.ubf_model.specs.declared.block.Found.{Found}
+use Rattle.ubf_model.specs.declared.block.Found.the-variants.{Whole, Refused}
 
 -- A walk from a place on lays the file out.
 abbrev Lays : List ℕ → ℕ → Walked → Type 0

@@ -4,14 +4,14 @@ use mathlib.Core.List.{List, [], _∷_}
 use mathlib.Core.Path.{_≡_, refl, ap, _∙_}
 use native.Mathlib.Omega.{arith}
 use lib.ListN.{length, drop, length-drop}
-use Rattle.ubf.specs.Block.{blockOf, sizeOf}
-use Rattle.ubf.specs.BlockLaws.{block-within, block-some}
-use Rattle.ubf.specs.Walk.{Walked, whole, fault, standing, ends, behind, goOn, walkOn, walkBy, walkFrom}
-use Rattle.ubf.specs.Walk.{nthOf, nthFrom}
-use Rattle.ubf.specs.declared.block.Block.{Block}
-use Rattle.ubf.specs.declared.block.Found.{Found}
-use Rattle.ubf.specs.declared.block.Found.the-variants.{Whole, Refused}
-use Rattle.ubf.specs.declared.walk.Nth.the-variants.{Found as NthFound, Past, Refused as NthRefused}
+use Rattle.ubf_model.specs.Block.{blockOf, sizeOf}
+use Rattle.ubf_model.specs.BlockLaws.{block-within, block-some}
+use Rattle.ubf_model.specs.Walk.{Walked, whole, fault, standing, ends, behind, goOn, walkOn, walkBy, walkFrom}
+use Rattle.ubf_model.specs.Walk.{nthOf, nthFrom}
+use Rattle.ubf_model.specs.declared.block.Block.{Block}
+use Rattle.ubf_model.specs.declared.block.Found.{Found}
+use Rattle.ubf_model.specs.declared.block.Found.the-variants.{Whole, Refused}
+use Rattle.ubf_model.specs.declared.walk.Nth.the-variants.{Found as NthFound, Past, Refused as NthRefused}
 
 -- ---- one step of the walk
 

@@ -4,18 +4,17 @@ use mathlib.Core.Bool.{true}
 use mathlib.Core.List.{List}
 use mathlib.Core.Path.{_≡_, ap, _∙_}
 use native.Mathlib.Omega.{arith}
-use borrow.Author.Tests.{eq-eqb, le-leb}
 use lib.ListN.{length, take, replicate}
 use Rattle.octets.specs.Octets.{Bytes, partOf}
 use Rattle.octets.specs.PartLaws.{length-part, part-of-number, zeros-of-zero}
-use Rattle.kinds.specs.Kinds.{baseOf}
 use Rattle.kinds.specs.declared.Kind.{Kind}
 use Rattle.refusals.specs.Written.{written}
-use Rattle.ubf.specs.Block.{headerSize, lengthIn, addressIn, startIn, modelIn, versionIn, nameIn, dateIn, gapIn, imageIn}
-use Rattle.ubf.specs.BlockLaws.{Good, good-of-block}
-use Rattle.ubf.specs.Pack.{textsIn, blockBytes, packOf}
-use Rattle.ubf.specs.PackLaws.{filled-full, filled-of-test, FieldsStand, block-of-fields}
-use Rattle.ubf.specs.Promises.{fieldsIn, WrittenRead}
+use Rattle.ubf_model.specs.Block.{headerSize, lengthIn, startIn, modelIn, versionIn, nameIn, dateIn, gapIn, imageIn}
+use Rattle.ubf_model.specs.Block.{lengthPlace, addressPlace, startPlace, typePlace, modelPlace, versionPlace, namePlace, datePlace, modelSize, versionSize, nameSize, dateSize}
+use Rattle.ubf_model.specs.BlockLaws.{Good, good-of-block}
+use Rattle.ubf_model.specs.Pack.{textsIn, blockBytes, packOf}
+use Rattle.ubf_model.specs.PackLaws.{filled-full, filled-of-test, FieldsStand, block-of-fields, pack-passed}
+use Rattle.ubf_promises.specs.Promises.{fieldsIn, WrittenRead}
 
 module _ (k : Kind) (s : List ℕ) (g : Good k s) where
   -- The image is as long as the header says.
@@ -40,14 +39,14 @@ module _ (k : Kind) (s : List ℕ) (g : Good k s) where
   fields-stand : Bytes s → FieldsStand (fieldsIn s) s
   fields-stand b = record {
     mark-there = g .marked;
-    length-there = rw image-long (part-of-number s 0x02 4 b (omega arith));
-    address-there = part-of-number s 0x06 4 b (omega arith);
-    start-there = part-of-number s 0x0A 4 b (omega arith);
-    type-there = part-of-number s 0x0E 2 b (omega arith);
-    model-there = filled-full 16 (modelIn s) (text-long 0x10 16 (omega arith));
-    version-there = filled-full 16 (versionIn s) (text-long 0x20 16 (omega arith));
-    name-there = filled-full 128 (nameIn s) (text-long 0x30 128 (omega arith));
-    date-there = filled-full 32 (dateIn s) (text-long 0xB0 32 (omega arith));
+    length-there = rw image-long (part-of-number s lengthPlace 4 b (omega arith));
+    address-there = part-of-number s addressPlace 4 b (omega arith);
+    start-there = part-of-number s startPlace 4 b (omega arith);
+    type-there = part-of-number s typePlace 2 b (omega arith);
+    model-there = filled-full modelSize (modelIn s) (text-long modelPlace modelSize (omega arith));
+    version-there = filled-full versionSize (versionIn s) (text-long versionPlace versionSize (omega arith));
+    name-there = filled-full nameSize (nameIn s) (text-long namePlace nameSize (omega arith));
+    date-there = filled-full dateSize (dateIn s) (text-long datePlace dateSize (omega arith));
     gap-there = gap-zeros;
     image-there = rw image-long;
     check-there = rw (image-long, ← g .checked) (part-of-number s (startIn s + lengthIn s) 4 b (g .there));
@@ -60,17 +59,9 @@ module _ (k : Kind) (s : List ℕ) (g : Good k s) where
   -- The writer passes the fields that were read, and writes those bytes.
   packs : Bytes s → (output : List ℕ) → startIn s + lengthIn s + 4 ≤ length output
       → packOf (fieldsIn s) output ≡ written (take (startIn s + lengthIn s + 4) s) output
-  unfolding packOf
-  packs b output room = rw (
-    image-long,
-    g .known,
-    eq-eqb (addressIn s) (baseOf k) (g .based),
-    g .sized,
-    le-leb headerSize (startIn s) (g .behind-header),
-    texts-fit,
-    le-leb (startIn s + lengthIn s + 4) (length output) room,
-    block-again b,
-  )
+  packs b output room =
+      pack-passed k (fieldsIn s) output (g .known) (g .based) (rw image-long (g .sized)) (g .behind-header) texts-fit (rw image-long room)
+      ∙ rw (block-again b)
 
 -- What was read is written again as the same bytes, wherever the output has room.
 pub written-read : WrittenRead

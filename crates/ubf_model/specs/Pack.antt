@@ -10,8 +10,9 @@ use Rattle.kinds.specs.declared.Known.{Known}
 use Rattle.kinds.specs.declared.Known.the-variants.{Is, Unknown}
 use Rattle.refusals.specs.Refusals.{noRoom, wrongType, wrongStart, wrongImageLength, notZeroFilled}
 use Rattle.refusals.specs.Written.{Out, refused, written}
-use Rattle.ubf.specs.Block.{headerSize, mark, textsFit}
-use Rattle.ubf.specs.declared.pack.Numbers.{Numbers}
+use Rattle.ubf_model.specs.Block.{headerSize, mark, textsFit}
+use Rattle.ubf_model.specs.Block.{modelSize, versionSize, nameSize, dateSize}
+use Rattle.ubf_model.specs.declared.pack.Numbers.{Numbers}
 
 -- What a block is made of: type, address and start of the image, the texts, the image.
 pub record Fields : Type 0 where
@@ -49,10 +50,10 @@ headerPieces f =
     ∷ (4, spelled 4 (f .address))
     ∷ (4, spelled 4 (f .start))
     ∷ (2, spelled 2 (f .number))
-    ∷ (16, filled 16 (f .model))
-    ∷ (16, filled 16 (f .version))
-    ∷ (128, filled 128 (f .name))
-    ∷ (32, filled 32 (f .date))
+    ∷ (modelSize, filled modelSize (f .model))
+    ∷ (versionSize, filled versionSize (f .version))
+    ∷ (nameSize, filled nameSize (f .name))
+    ∷ (dateSize, filled dateSize (f .date))
     ∷ []
 
 -- Behind it zeros up to the start, the image, its check.

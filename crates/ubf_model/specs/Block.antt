@@ -10,42 +10,83 @@ use Rattle.kinds.specs.declared.Kind.{Kind}
 use Rattle.kinds.specs.declared.Known.{Known}
 use Rattle.kinds.specs.declared.Known.the-variants.{Is, Unknown}
 use Rattle.refusals.specs.Refusals.{fileEnds, wrongMark, wrongType, wrongStart, wrongImageLength, notZeroFilled, wrongImageCheck}
-use Rattle.ubf.specs.declared.block.Block.{Block}
-use Rattle.ubf.specs.declared.block.Found.{Found}
-use Rattle.ubf.specs.declared.block.Found.the-variants.{Whole, Refused}
+use Rattle.ubf_model.specs.declared.block.Block.{Block}
+use Rattle.ubf_model.specs.declared.block.Found.{Found}
+use Rattle.ubf_model.specs.declared.block.Found.the-variants.{Whole, Refused}
 
 -- The header, up to the first place where the image may start.
 abbrev pub headerSize : ℕ
 headerSize = 0xD0
 
--- The fields, at their offsets within the block.
+-- Where the fields stand in it.
+abbrev pub markPlace : ℕ
+markPlace = 0x00
+
+abbrev pub lengthPlace : ℕ
+lengthPlace = 0x02
+
+abbrev pub addressPlace : ℕ
+addressPlace = 0x06
+
+abbrev pub startPlace : ℕ
+startPlace = 0x0A
+
+abbrev pub typePlace : ℕ
+typePlace = 0x0E
+
+abbrev pub modelPlace : ℕ
+modelPlace = 0x10
+
+abbrev pub versionPlace : ℕ
+versionPlace = 0x20
+
+abbrev pub namePlace : ℕ
+namePlace = 0x30
+
+abbrev pub datePlace : ℕ
+datePlace = 0xB0
+
+-- How many bytes each text has.
+abbrev pub modelSize : ℕ
+modelSize = 16
+
+abbrev pub versionSize : ℕ
+versionSize = 16
+
+abbrev pub nameSize : ℕ
+nameSize = 128
+
+abbrev pub dateSize : ℕ
+dateSize = 32
+
+-- The fields, at their places.
 abbrev pub markIn : List ℕ → List ℕ
-markIn s = partOf s 0x00 2
+markIn s = partOf s markPlace 2
 
 abbrev pub lengthIn : List ℕ → ℕ
-lengthIn s = numberAt 4 s 0x02
+lengthIn s = numberAt 4 s lengthPlace
 
 abbrev pub addressIn : List ℕ → ℕ
-addressIn s = numberAt 4 s 0x06
+addressIn s = numberAt 4 s addressPlace
 
 -- CS, the start of the image, counted from the block's own start.
 abbrev pub startIn : List ℕ → ℕ
-startIn s = numberAt 4 s 0x0A
+startIn s = numberAt 4 s startPlace
 
 abbrev pub typeIn : List ℕ → ℕ
-typeIn s = numberAt 2 s 0x0E
+typeIn s = numberAt 2 s typePlace
 
 abbrev pub modelIn : List ℕ → List ℕ
-modelIn s = partOf s 0x10 16
+modelIn s = partOf s modelPlace modelSize
 
 abbrev pub versionIn : List ℕ → List ℕ
-versionIn s = partOf s 0x20 16
+versionIn s = partOf s versionPlace versionSize
 
 abbrev pub nameIn : List ℕ → List ℕ
-nameIn s = partOf s 0x30 128
+nameIn s = partOf s namePlace nameSize
 
 abbrev pub dateIn : List ℕ → List ℕ
-dateIn s = partOf s 0xB0 32
+dateIn s = partOf s datePlace dateSize
 
 abbrev pub gapIn : List ℕ → List ℕ
 gapIn s = partOf s headerSize (startIn s - headerSize)
@@ -65,7 +106,8 @@ unfoldable pub textFits : ℕ → List ℕ → Bool
 textFits n text = leb (length text) n && zeroFilled text
 
 unfoldable pub textsFit : List ℕ → List ℕ → List ℕ → List ℕ → Bool
-textsFit model version name date = textFits 16 model && (textFits 16 version && (textFits 128 name && textFits 32 date))
+textsFit model version name date =
+    textFits modelSize model && (textFits versionSize version && (textFits nameSize name && textFits dateSize date))
 
 -- Texts and gap are filled with zeros.
 unfoldable pub filledIn : List ℕ → Bool

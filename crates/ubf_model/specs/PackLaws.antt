@@ -4,7 +4,7 @@ use mathlib.Core.Bool.{true, false≢true}
 use mathlib.Core.List.{List, [], _++_, append-nil}
 use mathlib.Core.Path.{_≡_, refl, sym, ap, _∙_}
 use native.Mathlib.Omega.{arith}
-use borrow.Author.Tests.{le-leb, leb-true}
+use borrow.Author.Tests.{eq-eqb, le-leb, leb-true}
 use lib.Dec.{leb}
 use lib.ListN.{length, take, replicate, length-append, length-replicate}
 use Rattle.octets.specs.Choice.{both}
@@ -12,29 +12,32 @@ use Rattle.octets.specs.Octets.{spelled, partOf, allZero, zeroFilled, xorWords,
 use Rattle.octets.specs.OctetsLaws.{length-spelled, over-nil}
 use Rattle.octets.specs.PartLaws.{sizeOfAll, Sized, StandAt, _also_}
 use Rattle.octets.specs.PartLaws.{lay-all, stand-of-laid, laid-of-stand, length-laid, filled-behind}
-use Rattle.kinds.specs.Kinds.{longestImage}
+use Rattle.kinds.specs.Kinds.{longestImage, kindOf, baseOf, fitsFile}
 use Rattle.kinds.specs.KindsLaws.{image-short}
+use Rattle.kinds.specs.declared.Kind.{Kind}
 use Rattle.kinds.specs.declared.Known.{Known}
 use Rattle.kinds.specs.declared.Known.the-variants.{Is, Unknown}
-use Rattle.ubf.specs.Block.{headerSize, markIn, mark, modelIn, versionIn, nameIn, dateIn, gapIn, textFits, textsFit, filledIn}
-use Rattle.ubf.specs.Pack.{headerPieces, bodyPieces, piecesOf, Fields, filled, blockBytes, bytesOf, textsIn, fits}
+use Rattle.refusals.specs.Written.{written}
+use Rattle.ubf_model.specs.Block.{headerSize, markIn, mark, modelIn, versionIn, nameIn, dateIn, gapIn, textFits, textsFit, filledIn}
+use Rattle.ubf_model.specs.Block.{lengthPlace, addressPlace, startPlace, typePlace, modelSize, versionSize, nameSize, dateSize}
+use Rattle.ubf_model.specs.Pack.{headerPieces, bodyPieces, piecesOf, Fields, filled, blockBytes, bytesOf, textsIn, fits, packOf}
 
 -- ---- the texts
 
 -- The test of the texts is the test of each.
 pub record TextsFit (f : Fields) : Type 0 where
-  pub model : textFits 16 (f .model) ≡ true
-  pub version : textFits 16 (f .version) ≡ true
-  pub name : textFits 128 (f .name) ≡ true
-  pub date : textFits 32 (f .date) ≡ true
+  pub model : textFits modelSize (f .model) ≡ true
+  pub version : textFits versionSize (f .version) ≡ true
+  pub name : textFits nameSize (f .name) ≡ true
+  pub date : textFits dateSize (f .date) ≡ true
 
 -- Where the test holds, each text fits.
 pub texts-of-test : (f : Fields) → textsIn f ≡ true → TextsFit f
 unfolding textsFit
 texts-of-test f h =
-    let first = both (textFits 16 (f .model)) _ h in
-    let second = both (textFits 16 (f .version)) _ (first .1) in
-    let third = both (textFits 128 (f .name)) _ (second .1) in
+    let first = both (textFits modelSize (f .model)) _ h in
+    let second = both (textFits versionSize (f .version)) _ (first .1) in
+    let third = both (textFits nameSize (f .name)) _ (second .1) in
     record { model = first .0; version = second .0; name = third .0; date = third .1 }
 
 -- Where each text fits, the test holds.
@@ -88,14 +91,14 @@ test-of-filled s texts gap = rw texts gap
 -- The fields of a block stand at their places in some bytes.
 pub record FieldsStand (f : Fields) (s : List ℕ) : Type 0 where
   pub mark-there : markIn s ≡ mark
-  pub length-there : partOf s 0x02 4 ≡ spelled 4 (length (f .image))
-  pub address-there : partOf s 0x06 4 ≡ spelled 4 (f .address)
-  pub start-there : partOf s 0x0A 4 ≡ spelled 4 (f .start)
-  pub type-there : partOf s 0x0E 2 ≡ spelled 2 (f .number)
-  pub model-there : modelIn s ≡ filled 16 (f .model)
-  pub version-there : versionIn s ≡ filled 16 (f .version)
-  pub name-there : nameIn s ≡ filled 128 (f .name)
-  pub date-there : dateIn s ≡ filled 32 (f .date)
+  pub length-there : partOf s lengthPlace 4 ≡ spelled 4 (length (f .image))
+  pub address-there : partOf s addressPlace 4 ≡ spelled 4 (f .address)
+  pub start-there : partOf s startPlace 4 ≡ spelled 4 (f .start)
+  pub type-there : partOf s typePlace 2 ≡ spelled 2 (f .number)
+  pub model-there : modelIn s ≡ filled modelSize (f .model)
+  pub version-there : versionIn s ≡ filled versionSize (f .version)
+  pub name-there : nameIn s ≡ filled nameSize (f .name)
+  pub date-there : dateIn s ≡ filled dateSize (f .date)
   pub gap-there : partOf s headerSize (f .start - headerSize) ≡ replicate (f .start - headerSize) 0
   pub image-there : partOf s (f .start) (length (f .image)) ≡ f .image
   pub check-there : partOf s (f .start + length (f .image)) 4 ≡ spelled 4 (xorWords (f .image))
@@ -117,10 +120,10 @@ pieces-sized f t =
     also length-spelled 4 (f .address)
     also length-spelled 4 (f .start)
     also length-spelled 2 (f .number)
-    also length-filled 16 (f .model) (t .model)
-    also length-filled 16 (f .version) (t .version)
-    also length-filled 128 (f .name) (t .name)
-    also length-filled 32 (f .date) (t .date)
+    also length-filled modelSize (f .model) (t .model)
+    also length-filled versionSize (f .version) (t .version)
+    also length-filled nameSize (f .name) (t .name)
+    also length-filled dateSize (f .date) (t .date)
     also length-replicate (f .start - headerSize) 0
     also refl
     also length-spelled 4 (xorWords (f .image))
@@ -182,6 +185,23 @@ block-of-fields f s h t =
     block-laid f
     ∙ laid-of-stand (piecesOf f) s 0 (pieces-of-fields f s h t)
     ∙ ap (λ (n : ℕ). take n s) (pieces-together f h)
+
+-- ---- the tests of the writer
+
+-- Fields that pass every test are written as their block.
+pub pack-passed : (k : Kind) (f : Fields) (output : List ℕ) → kindOf (f .number) ≡ Is k → f .address ≡ baseOf k
+    → fitsFile k (length (f .image)) ≡ true → headerSize ≤ f .start → textsIn f ≡ true → bytesOf f ≤ length output
+    → packOf f output ≡ written (blockBytes f) output
+unfolding packOf
+pack-passed k f output known based sized start texts room =
+    rw (
+      known,
+      eq-eqb (f .address) (baseOf k) based,
+      sized,
+      le-leb headerSize (f .start) start,
+      texts,
+      le-leb (bytesOf f) (length output) room,
+    )
 
 -- ---- what the writer lays adds up to the block
 
