@@ -1,12 +1,13 @@
-// What the host answers and where its session stands, in words.
-use crate::lines::show_message;
-use crate::lines::words_only;
-use crate::words::Side;
+// What the host answers and where its session stands, in words. As in `console`, these calls are proved to be safe and to end, and what
+// they print is tested.
 use host::Answer;
 use host::LineRate;
 use host::Phase;
 use host::Session;
 use host::Wait;
+use spoken_frames::Side;
+use spoken_frames::show_message;
+use spoken_frames::words_only;
 use stages::Rate;
 use stages::Stage;
 

@@ -1,9 +1,9 @@
--- `spoken::show_message` is safe and ends: the index stays below the length.
+-- `spoken_frames::show_message` is safe and ends: the index stays below the length.
 use borrow.Author.Needs.{needs}
 use Prim.Native.Nat.{_-_}
 use lib.ListN.{length}
-use Rattle.spoken.proofs.lines.show_message.Statement.{statement}
-use Rattle.spoken.proofs.lines.show_message.Tie as tie
+use Rattle.spoken_frames.proofs.lines.show_message.Statement.{statement}
+use Rattle.spoken_frames.proofs.lines.show_message.Tie as tie
 
 abbrev Inv-loop : tie.InvT-loop
 Inv-loop side places bytes reading₀ i₀ reading i = Unit {0}

@@ -1,10 +1,11 @@
-// What the module answers and where its session stands, in words.
-use crate::lines::show_message;
-use crate::lines::words_only;
-use crate::words::Side;
+// What the module answers and where its session stands, in words. As in `console`, these calls are proved to be safe and to end, and what
+// they print is tested.
 use module::Answer;
 use module::Phase;
 use module::Session;
+use spoken_frames::Side;
+use spoken_frames::show_message;
+use spoken_frames::words_only;
 
 // The most bytes that a line shows; that is a command and ten bytes of payload.
 pub const PLACES: usize = 11;

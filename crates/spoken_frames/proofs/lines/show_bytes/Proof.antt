@@ -1,7 +1,7 @@
--- `spoken::show_bytes` is safe: a message that is shortened has more bytes than the places, and there are four places at least.
+-- `spoken_frames::show_bytes` is safe: a message that is shortened has more bytes than the places, and there are four places at least.
 use borrow.Author.Needs.{needs}
-use Rattle.spoken.proofs.lines.show_bytes.Statement.{statement}
-use Rattle.spoken.proofs.lines.show_bytes.Tie as tie
+use Rattle.spoken_frames.proofs.lines.show_bytes.Statement.{statement}
+use Rattle.spoken_frames.proofs.lines.show_bytes.Tie as tie
 
 row-requires : tie.Need-row-requires
 row-requires c κs = search needs
