@@ -8,7 +8,7 @@ use crate::play::packet;
 use crate::play::parameters;
 use crate::play::rate;
 use crate::play::restart;
-use spoken::hosts::show_session;
+use spoken_host::show_session;
 use stages::Rate;
 use stages::Same;
 use stages::Start;

@@ -2,7 +2,7 @@
 use crate::play::at_notice;
 use crate::play::notice;
 use crate::play::wait;
-use spoken::hosts::show_session;
+use spoken_host::show_session;
 
 // State 0 leads to the restart.
 pub(crate) fn success() {

@@ -2,7 +2,7 @@
 use crate::play::at_packets;
 use crate::play::packet;
 use crate::play::wait;
-use spoken::hosts::show_session;
+use spoken_host::show_session;
 use stages::Same;
 
 // The acknowledgement of packet 1 is lost; two answers that do not fit are passed over.

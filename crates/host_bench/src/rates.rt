@@ -1,7 +1,7 @@
 // Rates that the module does not support.
 use crate::play::open;
 use crate::play::rate;
-use spoken::hosts::show_session;
+use spoken_host::show_session;
 use stages::Rate;
 use stages::Same;
 use stages::Start;

@@ -4,7 +4,7 @@ use crate::play::at_packets;
 use crate::play::hear_with;
 use crate::play::open_with;
 use host::Session;
-use spoken::hosts::show_session;
+use spoken_host::show_session;
 use stages::Rate;
 use stages::Same;
 use stages::Start;
