@@ -15,7 +15,7 @@ fn main() {
 
 // Reads the whole file, if it is not too large, and lists it.
 fn list_file(path: &[u8]) {
-    let mut file = [0u8; 524288];
+    let mut file = console::file_room();
     match console::read_whole(path, &mut file) {
         Got::Count(n) => list(octets::part(&file, 0, n)),
         Got::Failed => (),

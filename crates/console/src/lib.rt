@@ -7,6 +7,8 @@ pub mod voice;
 
 pub use arguments::argument_number;
 pub use files::Got;
+pub use files::file_room;
+pub use files::flash_room;
 pub use files::read_whole;
 pub use files::write_whole;
 pub use show::number;

@@ -8,11 +8,11 @@ use Rattle.refusals.specs.declared.Written.{Written}
 use Rattle.refusals.specs.declared.Written.the-variants.{Count, Refused}
 use Rattle.flat.specs.Answers.{written, found, past}
 use Rattle.kinds.specs.Kinds.{numberOf}
-use Rattle.ubf.specs.declared.block.Block.{Block}
-use Rattle.ubf.specs.declared.block.Found.{Found}
-use Rattle.ubf.specs.declared.block.Found.the-variants as block
-use Rattle.ubf.specs.declared.walk.Nth.{Nth}
-use Rattle.ubf.specs.declared.walk.Nth.the-variants as nth
+use Rattle.ubf_model.specs.declared.block.Block.{Block}
+use Rattle.ubf_model.specs.declared.block.Found.{Found}
+use Rattle.ubf_model.specs.declared.block.Found.the-variants as block
+use Rattle.ubf_model.specs.declared.walk.Nth.{Nth}
+use Rattle.ubf_model.specs.declared.walk.Nth.the-variants as nth
 use Rattle.exports.specs.declared.files.Answered.{Answered}
 
 -- A call that writes: 100 and how many bytes, or the refusal number.

@@ -2,9 +2,9 @@
 ghost use mathlib.Core.Path.{_≡_};
 ghost use Prim.Native.Nat.{_+_};
 ghost use Rattle.octets.specs.Octets.{partOf};
-ghost use Rattle.ubf.specs.Block.{modelIn, versionIn, nameIn, dateIn, blockOf};
-ghost use Rattle.ubf.specs.Pack.{gathered, packOf};
-ghost use Rattle.ubf.specs.Walk.{blockAt};
+ghost use Rattle.ubf_model.specs.Block.{modelPlace, versionPlace, namePlace, datePlace, modelIn, versionIn, nameIn, dateIn, blockOf};
+ghost use Rattle.ubf_model.specs.Pack.{gathered, packOf};
+ghost use Rattle.ubf_model.specs.Walk.{blockAt};
 ghost use Rattle.exports.specs.Flat.{writtenFlat, stretchOf, withBlock, withoutBlock, foundFlat, nthFlat};
 use crate::frames::count_of;
 use crate::frames::number_of;
@@ -12,6 +12,14 @@ use ubf::Block;
 use ubf::Found;
 use ubf::Nth;
 use ubf::Numbers;
+use ubf_model::DATE_PLACE;
+use ubf_model::DATE_SIZE;
+use ubf_model::MODEL_PLACE;
+use ubf_model::MODEL_SIZE;
+use ubf_model::NAME_PLACE;
+use ubf_model::NAME_SIZE;
+use ubf_model::VERSION_PLACE;
+use ubf_model::VERSION_SIZE;
 
 // An answer with every number of a block beside it; 0 where there is none.
 pub struct Answered {
@@ -144,30 +152,30 @@ pub extern "C" fn zrn_ubf_image(block: &[u8], start: u32, length: u32, place: &m
 
 #[no_mangle]
 pub extern "C" fn zrn_ubf_model(block: &[u8], place: &mut usize) -> usize
-    ensures { λ r. ⌜ record { count = r; place = now (place .exit) } ≡ stretchOf 0x10 (modelIn (now (block .entry))) ⌝ }
+    ensures { λ r. ⌜ record { count = r; place = now (place .exit) } ≡ stretchOf modelPlace (modelIn (now (block .entry))) ⌝ }
 {
-    stretch(block, 0x10, 16, place)
+    stretch(block, MODEL_PLACE, MODEL_SIZE, place)
 }
 
 #[no_mangle]
 pub extern "C" fn zrn_ubf_version(block: &[u8], place: &mut usize) -> usize
-    ensures { λ r. ⌜ record { count = r; place = now (place .exit) } ≡ stretchOf 0x20 (versionIn (now (block .entry))) ⌝ }
+    ensures { λ r. ⌜ record { count = r; place = now (place .exit) } ≡ stretchOf versionPlace (versionIn (now (block .entry))) ⌝ }
 {
-    stretch(block, 0x20, 16, place)
+    stretch(block, VERSION_PLACE, VERSION_SIZE, place)
 }
 
 #[no_mangle]
 pub extern "C" fn zrn_ubf_file_name(block: &[u8], place: &mut usize) -> usize
-    ensures { λ r. ⌜ record { count = r; place = now (place .exit) } ≡ stretchOf 0x30 (nameIn (now (block .entry))) ⌝ }
+    ensures { λ r. ⌜ record { count = r; place = now (place .exit) } ≡ stretchOf namePlace (nameIn (now (block .entry))) ⌝ }
 {
-    stretch(block, 0x30, 128, place)
+    stretch(block, NAME_PLACE, NAME_SIZE, place)
 }
 
 #[no_mangle]
 pub extern "C" fn zrn_ubf_date(block: &[u8], place: &mut usize) -> usize
-    ensures { λ r. ⌜ record { count = r; place = now (place .exit) } ≡ stretchOf 0xB0 (dateIn (now (block .entry))) ⌝ }
+    ensures { λ r. ⌜ record { count = r; place = now (place .exit) } ≡ stretchOf datePlace (dateIn (now (block .entry))) ⌝ }
 {
-    stretch(block, 0xB0, 32, place)
+    stretch(block, DATE_PLACE, DATE_SIZE, place)
 }
 
 #[no_mangle]

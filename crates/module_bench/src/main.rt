@@ -4,11 +4,11 @@ mod flash;
 use crate::flash::show_flash;
 use module::Event;
 use module::Session;
-use spoken::modules::PLACES;
-use spoken::modules::show_answer;
-use spoken::modules::show_opening;
-use spoken::modules::show_session;
-use spoken::words_only;
+use spoken_frames::words_only;
+use spoken_module::PLACES;
+use spoken_module::show_answer;
+use spoken_module::show_opening;
+use spoken_module::show_session;
 
 // 0x8000 + 24: type 1 begins at 0x8000.
 pub(crate) const FLASH: usize = 32792;

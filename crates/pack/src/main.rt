@@ -10,7 +10,7 @@ fn main() {
         usage();
         return;
     }
-    let mut image = [0u8; 262144];
+    let mut image = console::flash_room();
     let mut path = io::buffer();
     let length = os::arg(1, &mut path);
     if os::errno() != 0 {
@@ -65,7 +65,7 @@ fn pack_texts(numbers: Numbers, image: &[u8]) {
     let v = argument(6, &mut version);
     let f = argument(7, &mut name);
     let d = argument(8, &mut date);
-    let mut out = [0u8; 524288];
+    let mut out = console::file_room();
     let answer = ubf::write(
         numbers,
         octets::part(&model, 0, m),

@@ -2,35 +2,37 @@
 ghost use mathlib.Core.Path.{_≡_};
 ghost use Prim.Native.Nat.{_-_, _<_};
 ghost use Rattle.octets.specs.Octets.{sameBytes, partOf, xorWords};
-ghost use Rattle.ubf.specs.Block.{headerSize, markIn, mark, startIn, modelIn, versionIn, nameIn, dateIn, textFits, textsFit, filledIn, sizeOf, kindBlock, blockOf};
+ghost use Rattle.ubf_model.specs.Block.{headerSize, markIn, mark, startIn, modelIn, versionIn, nameIn, dateIn, textFits, textsFit, filledIn, sizeOf, kindBlock, blockOf};
 use kinds::Kind;
 use kinds::Known;
-
-// The fields of a block. Its texts and its image stay in the caller's file.
-pub struct Block {
-    pub kind: Kind,
-    pub length: u32,
-    pub start: u32,
-    pub check: u32,
-}
-
-// A block is either its fields or one refusal number.
-pub enum Found {
-    Whole(Block),
-    Refused(u8),
-}
+use ubf_model::ADDRESS_PLACE;
+use ubf_model::Block;
+use ubf_model::DATE_PLACE;
+use ubf_model::DATE_SIZE;
+use ubf_model::Found;
+use ubf_model::HEADER_SIZE;
+use ubf_model::LENGTH_PLACE;
+use ubf_model::MARK_PLACE;
+use ubf_model::MODEL_PLACE;
+use ubf_model::MODEL_SIZE;
+use ubf_model::NAME_PLACE;
+use ubf_model::NAME_SIZE;
+use ubf_model::START_PLACE;
+use ubf_model::TYPE_PLACE;
+use ubf_model::VERSION_PLACE;
+use ubf_model::VERSION_SIZE;
 
 // Reads the block at the front.
 pub fn read(s: &[u8]) -> Found
     ensures { λ r. ⌜ r ≡ blockOf (now (s .entry)) ⌝ }
 {
-    if s.len() < 0xD0 {
+    if s.len() < HEADER_SIZE {
         return Found::Refused(refusals::FILE_ENDS);
     }
     if !marked(s) {
         return Found::Refused(refusals::WRONG_MARK);
     }
-    match kinds::kind_of(octets::two_at(s, 0x0E)) {
+    match kinds::kind_of(octets::two_at(s, TYPE_PLACE)) {
         Known::Is(kind) => read_kind(s, kind),
         Known::Unknown => Found::Refused(refusals::WRONG_TYPE),
     }
@@ -39,23 +41,23 @@ pub fn read(s: &[u8]) -> Found
 fn read_kind(s: &[u8], kind: Kind) -> Found
     ensures { λ r. ⌜ r ≡ kindBlock kind (now (s .entry)) ⌝ }
 {
-    if octets::four_at(s, 0x06) != kinds::base_of(kind) {
+    if octets::four_at(s, ADDRESS_PLACE) != kinds::base_of(kind) {
         return Found::Refused(refusals::WRONG_TYPE);
     }
-    let length = octets::four_at(s, 0x02);
+    let length = octets::four_at(s, LENGTH_PLACE);
     let long = wide(length);
     if !kinds::fits_file(kind, long) {
         return Found::Refused(refusals::WRONG_IMAGE_LENGTH);
     }
-    let start = octets::four_at(s, 0x0A);
+    let start = octets::four_at(s, START_PLACE);
     let from = wide(start);
-    if from < 0xD0 {
+    if from < HEADER_SIZE {
         return Found::Refused(refusals::WRONG_START);
     }
     if s.len() < from + long + 4 {
         return Found::Refused(refusals::FILE_ENDS);
     }
-    if !filled(s, from - 0xD0) {
+    if !filled(s, from - HEADER_SIZE) {
         return Found::Refused(refusals::NOT_ZERO_FILLED);
     }
     let check = octets::four_at(s, from + long);
@@ -88,31 +90,31 @@ pub fn image(s: &[u8], block: Block) -> &[u8]
 pub fn model(s: &[u8]) -> &[u8]
     ensures { λ r. ⌜ now r ≡ modelIn (now (s .entry)) ⌝ }
 {
-    octets::part(s, 0x10, 16)
+    octets::part(s, MODEL_PLACE, MODEL_SIZE)
 }
 
 pub fn version(s: &[u8]) -> &[u8]
     ensures { λ r. ⌜ now r ≡ versionIn (now (s .entry)) ⌝ }
 {
-    octets::part(s, 0x20, 16)
+    octets::part(s, VERSION_PLACE, VERSION_SIZE)
 }
 
 pub fn file_name(s: &[u8]) -> &[u8]
     ensures { λ r. ⌜ now r ≡ nameIn (now (s .entry)) ⌝ }
 {
-    octets::part(s, 0x30, 128)
+    octets::part(s, NAME_PLACE, NAME_SIZE)
 }
 
 pub fn date(s: &[u8]) -> &[u8]
     ensures { λ r. ⌜ now r ≡ dateIn (now (s .entry)) ⌝ }
 {
-    octets::part(s, 0xB0, 32)
+    octets::part(s, DATE_PLACE, DATE_SIZE)
 }
 
 fn marked(s: &[u8]) -> bool
     ensures { λ r. ⌜ r ≡ sameBytes (markIn (now (s .entry))) mark ⌝ }
 {
-    octets::same(octets::part(s, 0x00, 2), b"AT")
+    octets::same(octets::part(s, MARK_PLACE, 2), b"AT")
 }
 
 // Whether the texts and the gap up to the image are filled with zeros.
@@ -123,22 +125,22 @@ fn filled(s: &[u8], gap: usize) -> bool
     if !texts_fit(model(s), version(s), file_name(s), date(s)) {
         return false;
     }
-    octets::zeros(octets::part(s, 0xD0, gap))
+    octets::zeros(octets::part(s, HEADER_SIZE, gap))
 }
 
 pub(crate) fn texts_fit(model: &[u8], version: &[u8], name: &[u8], date: &[u8]) -> bool
     ensures { λ r. ⌜ r ≡ textsFit (now (model .entry)) (now (version .entry)) (now (name .entry)) (now (date .entry)) ⌝ }
 {
-    if !text_fits(model, 16) {
+    if !text_fits(model, MODEL_SIZE) {
         return false;
     }
-    if !text_fits(version, 16) {
+    if !text_fits(version, VERSION_SIZE) {
         return false;
     }
-    if !text_fits(name, 128) {
+    if !text_fits(name, NAME_SIZE) {
         return false;
     }
-    text_fits(date, 32)
+    text_fits(date, DATE_SIZE)
 }
 
 // Whether a field of n bytes can hold a text.

@@ -4,7 +4,8 @@ ghost use Prim.Native.Nat.{_+_, _-_, _≤_, _<_};
 ghost use lib.ListN.{length, replicate};
 ghost use Rattle.octets.specs.Octets.{spelled, laid, layAll, xorWords};
 ghost use Rattle.kinds.specs.Kinds.{kindOf};
-ghost use Rattle.ubf.specs.Pack.{
+ghost use Rattle.ubf_model.specs.Block.{headerSize};
+ghost use Rattle.ubf_model.specs.Pack.{
   gathered,
   filled,
   headerPieces,
@@ -12,18 +13,26 @@ ghost use Rattle.ubf.specs.Pack.{
   fits,
   packOf,
 };
-ghost use Rattle.ubf.specs.PackLaws.{HeaderRoom};
+ghost use Rattle.ubf_model.specs.PackLaws.{HeaderRoom};
 use crate::block::texts_fit;
 use crate::block::wide;
 use kinds::Known;
 use refusals::Written;
-
-// The numbers that a block carries besides its image's length, which is the image's own.
-pub struct Numbers {
-    pub number: u16,
-    pub address: u32,
-    pub start: u32,
-}
+use ubf_model::ADDRESS_PLACE;
+use ubf_model::DATE_PLACE;
+use ubf_model::DATE_SIZE;
+use ubf_model::HEADER_SIZE;
+use ubf_model::LENGTH_PLACE;
+use ubf_model::MARK_PLACE;
+use ubf_model::MODEL_PLACE;
+use ubf_model::MODEL_SIZE;
+use ubf_model::NAME_PLACE;
+use ubf_model::NAME_SIZE;
+use ubf_model::Numbers;
+use ubf_model::START_PLACE;
+use ubf_model::TYPE_PLACE;
+use ubf_model::VERSION_PLACE;
+use ubf_model::VERSION_SIZE;
 
 // Writes a block into the output: type, address and start of the image, four texts without their zeros, the image.
 pub fn write(
@@ -47,7 +56,7 @@ pub fn write(
         return Written::Refused(refusals::WRONG_IMAGE_LENGTH);
     }
     let start = wide(numbers.start);
-    if start < 0xD0 {
+    if start < HEADER_SIZE {
         return Written::Refused(refusals::WRONG_START);
     }
     if !texts_fit(model, version, name, date) {
@@ -100,15 +109,15 @@ fn lay_header(
         (headerPieces
         (gathered numbers (now (model .entry)) (now (version .entry)) (now (name .entry)) (now (date .entry)) (now (image .entry)))) ⌝ }
 {
-    octets::copy(b"AT", out, 0x00);
-    octets::put_four(out, 0x02, image.len() as u32);
-    octets::put_four(out, 0x06, numbers.address);
-    octets::put_four(out, 0x0A, numbers.start);
-    octets::put_two(out, 0x0E, numbers.number);
-    lay_text(model, 16, out, 0x10);
-    lay_text(version, 16, out, 0x20);
-    lay_text(name, 128, out, 0x30);
-    lay_text(date, 32, out, 0xB0);
+    octets::copy(b"AT", out, MARK_PLACE);
+    octets::put_four(out, LENGTH_PLACE, image.len() as u32);
+    octets::put_four(out, ADDRESS_PLACE, numbers.address);
+    octets::put_four(out, START_PLACE, numbers.start);
+    octets::put_two(out, TYPE_PLACE, numbers.number);
+    lay_text(model, MODEL_SIZE, out, MODEL_PLACE);
+    lay_text(version, VERSION_SIZE, out, VERSION_PLACE);
+    lay_text(name, NAME_SIZE, out, NAME_PLACE);
+    lay_text(date, DATE_SIZE, out, DATE_PLACE);
 }
 
 // A text in its field of n bytes, the rest of it zeros.
@@ -123,14 +132,14 @@ fn lay_text(text: &[u8], n: usize, out: &mut [u8], at: usize)
 
 // Zeros up to the start, the image, and the check that is worked out from it.
 fn lay_image(start: usize, image: &[u8], out: &mut [u8])
-    requires { ⌜ (0xD0 ≤ start) × (start + length (now image) ≤ length (now out)) ⌝ }
+    requires { ⌜ (headerSize ≤ start) × (start + length (now image) ≤ length (now out)) ⌝ }
     ensures { λ _. ⌜ now (out .exit)
         ≡ laid
-        (laid (laid (now (out .entry)) 0xD0 (replicate (start - 0xD0) 0)) start (now (image .entry)))
+        (laid (laid (now (out .entry)) headerSize (replicate (start - headerSize) 0)) start (now (image .entry)))
         (start + length (now (image .entry)))
         (spelled 4 (xorWords (now (image .entry)))) ⌝ }
 {
-    octets::fill(out, 0xD0, start - 0xD0, 0);
+    octets::fill(out, HEADER_SIZE, start - HEADER_SIZE, 0);
     octets::copy(image, out, start);
     octets::put_four(out, start + image.len(), octets::xor_words(image));
 }

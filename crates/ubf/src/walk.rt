@@ -2,29 +2,13 @@
 ghost use mathlib.Core.Path.{_≡_};
 ghost use Prim.Native.Nat.{_+_, _^_, _≤_, _<_};
 ghost use lib.ListN.{length};
-ghost use Rattle.ubf.specs.Walk.{blockAt, nthFrom};
-use crate::block::Block;
-use crate::block::Found;
+ghost use Rattle.ubf_model.specs.Walk.{blockAt, nthFrom};
 use crate::block::read;
 use crate::block::size;
+use ubf_model::Found;
+use ubf_model::Nth;
 
-// The n-th block, counted from 0, and its place; or how many blocks the file has, where they are too few; or the first faulty
-// block's refusal number and place, and how many good blocks stand before it.
-pub enum Nth {
-    Found {
-        block: Block,
-        place: usize,
-    },
-    Past {
-        count: usize,
-    },
-    Refused {
-        number: u8,
-        place: usize,
-        count: usize,
-    },
-}
-
+// The n-th block of a file.
 pub fn block_at(file: &[u8], n: usize) -> Nth
     ensures { λ r. ⌜ r ≡ blockAt n (now (file .entry)) ⌝ }
 {

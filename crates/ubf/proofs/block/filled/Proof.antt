@@ -2,7 +2,8 @@
 use mathlib.Core.Path.{_≡_, ap, _∙_}
 use Rattle.octets.specs.Choice.{passed, failed}
 use Rattle.octets.specs.Octets.{allZero, partOf}
-use Rattle.ubf.specs.Block.{modelIn, versionIn, nameIn, dateIn, textsFit, filledIn}
+use Rattle.ubf_model.specs.Block.{modelIn, versionIn, nameIn, dateIn, textsFit, filledIn}
+use Rattle.ubf_model.specs.Block.{headerSize}
 use borrow.Author.Needs.{needs}
 use Rattle.ubf.proofs.block.filled.Statement.{statement}
 use Rattle.ubf.proofs.block.filled.Tie as tie
@@ -42,7 +43,7 @@ unfolding filledIn
 returns-2 c =
     let s = c .before .before .before .before .before .before .before .before .before .args .s .now in
     rw (passed (texts-are (c .before .before .before)) (c .before .before .if1 .left))
-    (c .zeros .ensures ∙ ap allZero (c .before .part .ensures ∙ ap (partOf s 0xD0) (c .before .before .before .before .before .before .before .before .before .pre)))
+    (c .zeros .ensures ∙ ap allZero (c .before .part .ensures ∙ ap (partOf s headerSize) (c .before .before .before .before .before .before .before .before .before .pre)))
 
 pub filled-spec : {M : Type 1} → statement M
 filled-spec =

@@ -1,7 +1,7 @@
 -- `ubf::marked`: the two bytes are compared with the mark.
 use mathlib.Core.Path.{ap, _∙_}
 use Rattle.octets.specs.Octets.{sameBytes}
-use Rattle.ubf.specs.Block.{mark}
+use Rattle.ubf_model.specs.Block.{mark}
 use borrow.Author.Needs.{needs}
 use Rattle.ubf.proofs.block.marked.Statement.{statement}
 use Rattle.ubf.proofs.block.marked.Tie as tie

@@ -3,7 +3,7 @@ use mathlib.Core.Path.{_≡_, sym, ap, _∙_}
 use borrow.Author.Tests.{le-leb, lt-leb}
 use Rattle.octets.specs.Choice.{cond-yes, cond-no, failed, passed}
 use Rattle.kinds.specs.Kinds.{kindOf}
-use Rattle.ubf.specs.Block.{headerSize, typeIn, knownBlock, blockOf}
+use Rattle.ubf_model.specs.Block.{headerSize, typeIn, knownBlock, blockOf}
 use borrow.Author.Needs.{needs}
 use Rattle.ubf.proofs.block.read.Statement.{statement}
 use Rattle.ubf.proofs.block.read.Tie as tie

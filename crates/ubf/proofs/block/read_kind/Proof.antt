@@ -9,8 +9,8 @@ use lib.ListN.{length}
 use Rattle.octets.specs.Choice.{cond-yes, cond-no, passed, failed}
 use Rattle.octets.specs.Octets.{numberAt, partOf, xorWords}
 use Rattle.kinds.specs.Kinds.{baseOf, fitsFile}
-use Rattle.ubf.specs.Block.{headerSize, lengthIn, addressIn, startIn, imageIn, checkIn, filledIn, kindBlock}
-use Rattle.ubf.specs.declared.block.Found.the-variants.{Whole}
+use Rattle.ubf_model.specs.Block.{headerSize, lengthIn, addressIn, startIn, imageIn, checkIn, filledIn, kindBlock}
+use Rattle.ubf_model.specs.declared.block.Found.the-variants.{Whole}
 use borrow.Author.Needs.{needs}
 use Rattle.ubf.proofs.block.read_kind.Statement.{statement}
 use Rattle.ubf.proofs.block.read_kind.Tie as tie

@@ -1,6 +1,6 @@
 -- `ubf::text_fits`: the length, then the zeros.
 use borrow.Author.Tests.{le-leb, lt-leb}
-use Rattle.ubf.specs.Block.{textFits}
+use Rattle.ubf_model.specs.Block.{textFits}
 use borrow.Author.Needs.{needs}
 use Rattle.ubf.proofs.block.text_fits.Statement.{statement}
 use Rattle.ubf.proofs.block.text_fits.Tie as tie

@@ -1,6 +1,6 @@
 -- `ubf::texts_fit`: the four texts in order; each that fails decides.
 use Rattle.octets.specs.Choice.{passed, failed}
-use Rattle.ubf.specs.Block.{textsFit}
+use Rattle.ubf_model.specs.Block.{textsFit}
 use borrow.Author.Needs.{needs}
 use Rattle.ubf.proofs.block.texts_fit.Statement.{statement}
 use Rattle.ubf.proofs.block.texts_fit.Tie as tie

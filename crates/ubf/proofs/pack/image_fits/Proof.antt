@@ -1,6 +1,6 @@
 -- `ubf::image_fits`: the kind decides.
 use mathlib.Core.Path.{sym, ap, _∙_}
-use Rattle.ubf.specs.Pack.{fits}
+use Rattle.ubf_model.specs.Pack.{fits}
 use borrow.Author.Needs.{needs}
 use Rattle.ubf.proofs.pack.image_fits.Statement.{statement}
 use Rattle.ubf.proofs.pack.image_fits.Tie as tie

@@ -3,11 +3,12 @@ use mathlib.Core.Path.{_≡_, ap, _∙_}
 use native.Mathlib.Omega.{arith}
 use lib.ListN.{length}
 use Rattle.octets.specs.Octets.{laid, spelled}
-use Rattle.ubf.specs.Pack.{gathered, filled}
-use Rattle.ubf.specs.PackLaws.{TextsFit, texts-of-test, fits-field}
+use Rattle.ubf_model.specs.Pack.{gathered, filled}
+use Rattle.ubf_model.specs.PackLaws.{TextsFit, texts-of-test, fits-field}
 use borrow.Author.Needs.{needs}
 use Rattle.ubf.proofs.pack.lay_header.Statement.{statement}
 use Rattle.ubf.proofs.pack.lay_header.Tie as tie
+use Rattle.ubf_model.specs.Block.{lengthPlace, addressPlace, startPlace, typePlace, modelPlace, versionPlace, namePlace, datePlace, modelSize, versionSize, nameSize, dateSize}
 
 -- The texts fit, as was asked.
 texts-here : (c : tie.Start)
@@ -65,19 +66,19 @@ put-two-requires c κs = search needs
 
 lay-text-requires : tie.Need-lay-text-requires
 lay-text-requires c κs =
-    (fits-field 16 _ (texts-here (c .before .before .before .before .before .before .before .before .before .before .before .before .before .before .before .before .before .before .before .before .before .before .before .before .before .before .before .before) .model) .0, omega (arith, size6 (c .before), c .before .before .before .before .before .before .before .before .before .before .before .before .before .before .before .before .before .before .before .before .before .before .before .before .before .before .before .before .pre .room))
+    (fits-field modelSize _ (texts-here (c .before .before .before .before .before .before .before .before .before .before .before .before .before .before .before .before .before .before .before .before .before .before .before .before .before .before .before .before) .model) .0, omega (arith, size6 (c .before), c .before .before .before .before .before .before .before .before .before .before .before .before .before .before .before .before .before .before .before .before .before .before .before .before .before .before .before .before .pre .room))
 
 lay-text-requires-2 : tie.Need-lay-text-requires-2
 lay-text-requires-2 c κs =
-    (fits-field 16 _ (texts-here (c .before .before .before .before .before .before .before .before .before .before .before .before .before .before .before .before .before .before .before .before .before .before .before .before .before .before .before .before .before .before .before .before) .version) .0, omega (arith, size7 (c .before), c .before .before .before .before .before .before .before .before .before .before .before .before .before .before .before .before .before .before .before .before .before .before .before .before .before .before .before .before .before .before .before .before .pre .room))
+    (fits-field versionSize _ (texts-here (c .before .before .before .before .before .before .before .before .before .before .before .before .before .before .before .before .before .before .before .before .before .before .before .before .before .before .before .before .before .before .before .before) .version) .0, omega (arith, size7 (c .before), c .before .before .before .before .before .before .before .before .before .before .before .before .before .before .before .before .before .before .before .before .before .before .before .before .before .before .before .before .before .before .before .before .pre .room))
 
 lay-text-requires-3 : tie.Need-lay-text-requires-3
 lay-text-requires-3 c κs =
-    (fits-field 128 _ (texts-here (c .before .before .before .before .before .before .before .before .before .before .before .before .before .before .before .before .before .before .before .before .before .before .before .before .before .before .before .before .before .before .before .before .before .before .before .before) .name) .0, omega (arith, size8 (c .before), c .before .before .before .before .before .before .before .before .before .before .before .before .before .before .before .before .before .before .before .before .before .before .before .before .before .before .before .before .before .before .before .before .before .before .before .before .pre .room))
+    (fits-field nameSize _ (texts-here (c .before .before .before .before .before .before .before .before .before .before .before .before .before .before .before .before .before .before .before .before .before .before .before .before .before .before .before .before .before .before .before .before .before .before .before .before) .name) .0, omega (arith, size8 (c .before), c .before .before .before .before .before .before .before .before .before .before .before .before .before .before .before .before .before .before .before .before .before .before .before .before .before .before .before .before .before .before .before .before .before .before .before .before .pre .room))
 
 lay-text-requires-4 : tie.Need-lay-text-requires-4
 lay-text-requires-4 c κs =
-    (fits-field 32 _ (texts-here (c .before .before .before .before .before .before .before .before .before .before .before .before .before .before .before .before .before .before .before .before .before .before .before .before .before .before .before .before .before .before .before .before .before .before .before .before .before .before .before .before) .date) .0, omega (arith, size9 (c .before), c .before .before .before .before .before .before .before .before .before .before .before .before .before .before .before .before .before .before .before .before .before .before .before .before .before .before .before .before .before .before .before .before .before .before .before .before .before .before .before .before .pre .room))
+    (fits-field dateSize _ (texts-here (c .before .before .before .before .before .before .before .before .before .before .before .before .before .before .before .before .before .before .before .before .before .before .before .before .before .before .before .before .before .before .before .before .before .before .before .before .before .before .before .before) .date) .0, omega (arith, size9 (c .before), c .before .before .before .before .before .before .before .before .before .before .before .before .before .before .before .before .before .before .before .before .before .before .before .before .before .before .before .before .before .before .before .before .before .before .before .before .before .before .before .before .pre .room))
 
 same-length : tie.Need-same-length
 same-length c = size10 c
@@ -86,14 +87,14 @@ returns : tie.Need-returns
 returns c =
     let a = c .before .before .before .before .before .before .before .before .before .before .before .before .before .before .before .before .before .before .before .before .before .before .before .before .before .before .before .before .before .before .before .before .before .before .before .before .before .before .before .before .before .before .before .args in
     let laid0 = c .before .before .before .before .before .before .before .before .before .before .before .before .before .before .before .before .before .before .before .before .before .before .before .before .before .before .before .before .before .before .before .before .before .before .copy .ensures in
-    let laid1 = c .before .before .before .before .before .before .before .before .before .before .before .before .before .before .before .before .before .before .before .before .before .before .before .before .before .before .before .before .before .before .put-four .ensures ∙ ap (λ l. laid l 0x02 (spelled 4 (length (a .image .now)))) laid0 in
-    let laid2 = c .before .before .before .before .before .before .before .before .before .before .before .before .before .before .before .before .before .before .before .before .before .before .before .before .before .before .put-four2 .ensures ∙ ap (λ l. laid l 0x06 (spelled 4 (a .numbers .address))) laid1 in
-    let laid3 = c .before .before .before .before .before .before .before .before .before .before .before .before .before .before .before .before .before .before .before .before .before .before .put-four3 .ensures ∙ ap (λ l. laid l 0x0A (spelled 4 (a .numbers .start))) laid2 in
-    let laid4 = c .before .before .before .before .before .before .before .before .before .before .before .before .before .before .before .before .before .before .put-two .ensures ∙ ap (λ l. laid l 0x0E (spelled 2 (a .numbers .number))) laid3 in
-    let laid5 = c .before .before .before .before .before .before .before .before .before .before .before .before .before .before .lay-text .ensures ∙ ap (λ l. laid l 0x10 (filled 16 (a .model .now))) laid4 in
-    let laid6 = c .before .before .before .before .before .before .before .before .before .before .lay-text2 .ensures ∙ ap (λ l. laid l 0x20 (filled 16 (a .version .now))) laid5 in
-    let laid7 = c .before .before .before .before .before .before .lay-text3 .ensures ∙ ap (λ l. laid l 0x30 (filled 128 (a .name .now))) laid6 in
-    let laid8 = c .before .before .lay-text4 .ensures ∙ ap (λ l. laid l 0xB0 (filled 32 (a .date .now))) laid7 in
+    let laid1 = c .before .before .before .before .before .before .before .before .before .before .before .before .before .before .before .before .before .before .before .before .before .before .before .before .before .before .before .before .before .before .put-four .ensures ∙ ap (λ l. laid l lengthPlace (spelled 4 (length (a .image .now)))) laid0 in
+    let laid2 = c .before .before .before .before .before .before .before .before .before .before .before .before .before .before .before .before .before .before .before .before .before .before .before .before .before .before .put-four2 .ensures ∙ ap (λ l. laid l addressPlace (spelled 4 (a .numbers .address))) laid1 in
+    let laid3 = c .before .before .before .before .before .before .before .before .before .before .before .before .before .before .before .before .before .before .before .before .before .before .put-four3 .ensures ∙ ap (λ l. laid l startPlace (spelled 4 (a .numbers .start))) laid2 in
+    let laid4 = c .before .before .before .before .before .before .before .before .before .before .before .before .before .before .before .before .before .before .put-two .ensures ∙ ap (λ l. laid l typePlace (spelled 2 (a .numbers .number))) laid3 in
+    let laid5 = c .before .before .before .before .before .before .before .before .before .before .before .before .before .before .lay-text .ensures ∙ ap (λ l. laid l modelPlace (filled modelSize (a .model .now))) laid4 in
+    let laid6 = c .before .before .before .before .before .before .before .before .before .before .lay-text2 .ensures ∙ ap (λ l. laid l versionPlace (filled versionSize (a .version .now))) laid5 in
+    let laid7 = c .before .before .before .before .before .before .lay-text3 .ensures ∙ ap (λ l. laid l namePlace (filled nameSize (a .name .now))) laid6 in
+    let laid8 = c .before .before .lay-text4 .ensures ∙ ap (λ l. laid l datePlace (filled dateSize (a .date .now))) laid7 in
     laid8
 
 pub lay-header-spec : {M : Type 1} → statement M

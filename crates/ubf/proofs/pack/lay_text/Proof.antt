@@ -5,7 +5,7 @@ use native.Mathlib.Omega.{arith}
 use lib.ListN.{length, replicate, length-replicate}
 use Rattle.octets.specs.Octets.{laid}
 use Rattle.octets.specs.OctetsLaws.{laid-next}
-use Rattle.ubf.specs.Pack.{filled}
+use Rattle.ubf_model.specs.Pack.{filled}
 use borrow.Author.Needs.{needs}
 use Rattle.ubf.proofs.pack.lay_text.Statement.{statement}
 use Rattle.ubf.proofs.pack.lay_text.Tie as tie

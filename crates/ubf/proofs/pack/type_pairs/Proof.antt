@@ -1,7 +1,7 @@
 -- `ubf::type_pairs`: the kind decides.
 use mathlib.Core.Path.{sym, ap, _∙_}
 use lib.Dec.{eqb}
-use Rattle.ubf.specs.Pack.{pairs}
+use Rattle.ubf_model.specs.Pack.{pairs}
 use borrow.Author.Needs.{needs}
 use Rattle.ubf.proofs.pack.type_pairs.Statement.{statement}
 use Rattle.ubf.proofs.pack.type_pairs.Tie as tie

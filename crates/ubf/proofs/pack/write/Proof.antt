@@ -10,9 +10,9 @@ use lib.ListN.{length, replicate}
 use Rattle.octets.specs.Choice.{cond-yes, cond-no, passed, failed}
 use Rattle.octets.specs.Octets.{laid, over, layAll, spelled, xorWords}
 use Rattle.kinds.specs.Kinds.{kindOf}
-use Rattle.ubf.specs.Block.{headerSize, textsFit}
-use Rattle.ubf.specs.Pack.{Fields, gathered, bytesOf, blockBytes, bodyPieces, pairs, fits, packOf}
-use Rattle.ubf.specs.PackLaws.{texts-of-test, length-block, block-built, body-built, fits-short}
+use Rattle.ubf_model.specs.Block.{headerSize, textsFit}
+use Rattle.ubf_model.specs.Pack.{Fields, gathered, bytesOf, blockBytes, bodyPieces, pairs, fits, packOf}
+use Rattle.ubf_model.specs.PackLaws.{texts-of-test, length-block, block-built, body-built, fits-short}
 use Rattle.refusals.specs.declared.Written.the-variants.{Count}
 use borrow.Author.Needs.{needs}
 use Rattle.ubf.proofs.pack.write.Statement.{statement}

@@ -5,9 +5,9 @@ use native.Mathlib.Numerals.{add-one}
 use native.Mathlib.Omega.{arith}
 use denote.Ref.{now}
 use lib.ListN.{length, drop, length-drop}
-use Rattle.ubf.specs.Block.{sizeOf}
-use Rattle.ubf.specs.BlockLaws.{block-within, block-some}
-use Rattle.ubf.specs.WalkLaws.{nth-refused, nth-here, nth-last, nth-next}
+use Rattle.ubf_model.specs.Block.{sizeOf}
+use Rattle.ubf_model.specs.BlockLaws.{block-within, block-some}
+use Rattle.ubf_model.specs.WalkLaws.{nth-refused, nth-here, nth-last, nth-next}
 use Prim.Native.Nat.{ℕ, suc, _-_, _<_}
 use borrow.Fn.Kinds.{In}
 use borrow.Fn.PlainCycle.{Measures, is, falls, and}

@@ -1,0 +1,5 @@
+-- The promises, and a file of proof for each.
+pub mod Promises
+pub mod Laid
+pub mod ReadWritten
+pub mod WrittenRead
