@@ -44,7 +44,7 @@ pub fn write_packet(image: &[u8], size: usize, number: usize, out: &mut [u8]) ->
     if 1024 < n {
         return Written::Refused(refusals::PAYLOAD_TOO_LONG);
     }
-    let mut payload = [0u8; 1030];
+    let mut payload = [0u8; wire::PAYLOAD_MOST];
     octets::put_two(
         &mut payload,
         0,

@@ -2,15 +2,16 @@
 ghost use mathlib.Core.Path.{_≡_};
 ghost use Prim.Native.Nat.{_≤_, _<_};
 ghost use lib.ListN.{take};
-ghost use Rattle.wire.specs.Frame.{verdictOf};
+ghost use Rattle.wire.specs.Frame.{longestContent, verdictOf};
 ghost use Rattle.reader.specs.Reader.{fresh, knownOf, closedOf, answers, movedBy, stepOf, payloadIn};
 use crate::moves::Move;
 use crate::moves::move_of;
+use wire::CONTENT_MOST;
 use wire::Verdict;
 
 // The content so far stands in the first count bytes of the store.
 pub struct Reader {
-    pub store: [u8; 1035],
+    pub store: [u8; CONTENT_MOST],
     pub count: usize,
     pub opened: bool,
     pub pending: bool,
@@ -34,7 +35,7 @@ impl Reader {
         ensures { λ r. ⌜ r ≡ fresh ⌝ }
     {
         Reader {
-            store: [0u8; 1035],
+            store: [0u8; CONTENT_MOST],
             count: 0,
             opened: false,
             pending: false,
@@ -58,9 +59,9 @@ impl Reader {
     }
 
     fn known(self) -> Reader
-        ensures { λ r. ⌜ (r ≡ knownOf self) × (r .count ≤ 1035) ⌝ }
+        ensures { λ r. ⌜ (r ≡ knownOf self) × (r .count ≤ longestContent) ⌝ }
     {
-        if self.count <= wire::CONTENT_MOST {
+        if self.count <= CONTENT_MOST {
             return self;
         }
         Reader::new()
@@ -89,7 +90,7 @@ impl Reader {
     }
 
     fn puts(self, byte: u8) -> Stepped
-        requires { ⌜ self .count < 1035 ⌝ }
+        requires { ⌜ self .count < longestContent ⌝ }
         ensures { λ r. ⌜ r ≡ movedBy (Move.Put byte) self ⌝ }
     {
         let at = self.count;
@@ -102,7 +103,7 @@ impl Reader {
 
     // The tail closes, and hands out the frame if there is one.
     fn ends(self) -> Stepped
-        requires { ⌜ self .count ≤ 1035 ⌝ }
+        requires { ⌜ self .count ≤ longestContent ⌝ }
         ensures { λ r. ⌜ r ≡ movedBy Move.End self ⌝ }
     {
         let store = self.store;
@@ -137,8 +138,8 @@ impl Reader {
 }
 
 // The verdict over the content so far.
-fn judged(store: &[u8; 1035], count: usize) -> Verdict
-    requires { ⌜ count ≤ 1035 ⌝ }
+fn judged(store: &[u8; CONTENT_MOST], count: usize) -> Verdict
+    requires { ⌜ count ≤ longestContent ⌝ }
     ensures { λ r. ⌜ r ≡ verdictOf (take count (now (store .entry))) ⌝ }
 {
     let all: &[u8] = store;
