@@ -15,12 +15,21 @@ use Rattle.reader.specs.declared.steps.Heard.{Heard}
 use Rattle.reader.specs.declared.steps.Heard.the-variants.{Nothing, Frame, Dropped}
 use Rattle.reader.specs.declared.steps.Stepped.{Stepped}
 
--- How many bytes a reader takes, and where its store begins.
-abbrev pub readerBytes : ℕ
-readerBytes = 1047
+-- Where each number of the record stands, and how long the record is. Whatever is added comes last.
+abbrev pub countPlace : ℕ
+countPlace = 0
+
+abbrev pub openedPlace : ℕ
+openedPlace = 4
+
+abbrev pub pendingPlace : ℕ
+pendingPlace = 8
 
 abbrev pub storePlace : ℕ
 storePlace = 12
+
+abbrev pub readerBytes : ℕ
+readerBytes = 1047
 
 abbrev pub flag : Bool → ℕ
 flag true = 1
@@ -32,7 +41,7 @@ bytesOf r = spelledAll (lowHalf (r .count) ∷ flag (r .opened) ∷ flag (r .pen
 
 -- Bytes that stand for a reader: a count of at most 1,035 and flags of 0 or 1.
 unfoldable pub stands : List ℕ → Bool
-stands state = leb (numberAt 4 state 0) longestContent && (leb (numberAt 4 state 4) 1 && leb (numberAt 4 state 8) 1)
+stands state = leb (numberAt 4 state countPlace) longestContent && (leb (numberAt 4 state openedPlace) 1 && leb (numberAt 4 state pendingPlace) 1)
 
 -- The reader in some bytes; where they stand for none, a fresh one.
 unfoldable pub readerIn : List ℕ → Reader
@@ -40,9 +49,9 @@ readerIn state =
     cond (stands state)
     (record {
       store = partOf state storePlace longestContent;
-      count = numberAt 4 state 0;
-      opened = eqb (numberAt 4 state 4) 1;
-      pending = eqb (numberAt 4 state 8) 1;
+      count = numberAt 4 state countPlace;
+      opened = eqb (numberAt 4 state openedPlace) 1;
+      pending = eqb (numberAt 4 state pendingPlace) 1;
     })
     fresh
 

@@ -11,16 +11,17 @@ use Rattle.octets.specs.OctetsLaws.{over-laid}
 use Rattle.octets.specs.Choice.{cond-no}
 use Rattle.flat.specs.Words.{spelledAll, recorded}
 use Rattle.flat.specs.WordsLaws.{length-spelled-all}
+use Rattle.wire.specs.Frame.{longestContent}
 use Rattle.reader.specs.declared.steps.Reader.{Reader}
-use Rattle.kept_reader.specs.Kept.{bytesOf}
+use Rattle.kept_reader.specs.Kept.{readerBytes, storePlace, bytesOf}
 
 -- A store that the bytes from its place on are copied into.
-pub store-copied : (state : List ℕ) → 1047 ≤ length state → laid (replicate 1035 0) 0 (drop 12 state) ≡ partOf state 12 1035
+pub store-copied : (state : List ℕ) → readerBytes ≤ length state → laid (replicate longestContent 0) 0 (drop storePlace state) ≡ partOf state storePlace longestContent
 unfolding laid partOf
 store-copied state h =
-    let store : List ℕ = replicate 1035 0 in
+    let store : List ℕ = replicate longestContent 0 in
     let rest : List ℕ = drop 12 state in
-    let size : length store ≡ 1035 = length-replicate {A = ℕ} 1035 0 in
+    let size : length store ≡ longestContent = length-replicate {A = ℕ} longestContent 0 in
     let none : drop (0 + length rest) store ≡ [] =
     drop-of-length-le store {i = 0 + length rest} (rw (size, length-drop) (omega arith)) in
     ap (λ (l : List ℕ). take (length store - 0) rest ++ l) none

@@ -1,10 +1,14 @@
-// A reader that its caller keeps as bytes: three words, count, opened and pending, and behind them the store.
+// A reader that its caller keeps as bytes. Its record: count, opened and pending, four bytes each, then the store; whatever is added comes
+// last.
 ghost use mathlib.Core.Path.{_≡_};
 ghost use Prim.Native.Nat.{_≤_, _<_};
 ghost use lib.ListN.{length};
 ghost use Rattle.octets.specs.Octets.{partOf, over};
+ghost use Rattle.wire.specs.Frame.{longestContent};
 ghost use Rattle.reader.specs.Reader.{fresh};
 ghost use Rattle.kept_reader.specs.Kept.{
+  readerBytes,
+  storePlace,
   stands,
   readerIn,
   bytesOf,
@@ -17,12 +21,26 @@ ghost use Rattle.kept_reader.specs.Kept.{
 };
 use reader::Heard;
 use reader::Reader;
+use wire::CONTENT_MOST;
+
+// Where each number of the record stands, and how long the record is.
+const COUNT: usize = 0;
+
+const OPENED: usize = 4;
+
+const PENDING: usize = 8;
+
+const STORE: usize = 12;
+
+const READER_BYTES: usize = 1047;
+
+const COUNT_MOST: u32 = CONTENT_MOST as u32;
 
 // Makes a fresh reader; 2 where the buffer is too short for one.
 pub fn new(state: &mut [u8]) -> u8
     ensures { λ r. ⌜ record { answer = r; state = now (state .exit) } ≡ keptNew (now (state .entry)) ⌝ }
 {
-    if state.len() < 1047 {
+    if state.len() < READER_BYTES {
         return refusals::NO_ROOM;
     }
     keep(Reader::new(), state);
@@ -34,7 +52,7 @@ pub fn step(state: &mut [u8], byte: u8, command: &mut u8, count: &mut usize) -> 
     ensures { λ r. ⌜ record { answer = r; command = now (command .exit); count = now (count .exit); state = now (state .exit) }
         ≡ keptStep (now (state .entry)) byte ⌝ }
 {
-    if state.len() < 1047 {
+    if state.len() < READER_BYTES {
         *command = 0;
         *count = 0;
         return refusals::NO_ROOM;
@@ -48,7 +66,7 @@ pub fn step(state: &mut [u8], byte: u8, command: &mut u8, count: &mut usize) -> 
 }
 
 fn load(state: &[u8]) -> Reader
-    requires { ⌜ 1047 ≤ length (now state) ⌝ }
+    requires { ⌜ readerBytes ≤ length (now state) ⌝ }
     ensures { λ r. ⌜ r ≡ readerIn (now (state .entry)) ⌝ }
 {
     if !stands_for_one(state) {
@@ -56,9 +74,9 @@ fn load(state: &[u8]) -> Reader
     }
     Reader {
         store: store_in(state),
-        count: flat::wide(octets::four_at(state, 0)),
-        opened: octets::four_at(state, 4) == 1,
-        pending: octets::four_at(state, 8) == 1,
+        count: flat::wide(octets::four_at(state, COUNT)),
+        opened: octets::four_at(state, OPENED) == 1,
+        pending: octets::four_at(state, PENDING) == 1,
     }
 }
 
@@ -66,26 +84,26 @@ fn load(state: &[u8]) -> Reader
 fn stands_for_one(state: &[u8]) -> bool
     ensures { λ r. ⌜ r ≡ stands (now (state .entry)) ⌝ }
 {
-    if 1035 < octets::four_at(state, 0) {
+    if COUNT_MOST < octets::four_at(state, COUNT) {
         return false;
     }
-    if 1 < octets::four_at(state, 4) {
+    if 1 < octets::four_at(state, OPENED) {
         return false;
     }
-    octets::four_at(state, 8) <= 1
+    octets::four_at(state, PENDING) <= 1
 }
 
-fn store_in(state: &[u8]) -> [u8; 1035]
-    requires { ⌜ 1047 ≤ length (now state) ⌝ }
-    ensures { λ r. ⌜ r ≡ partOf (now (state .entry)) 12 1035 ⌝ }
+fn store_in(state: &[u8]) -> [u8; CONTENT_MOST]
+    requires { ⌜ readerBytes ≤ length (now state) ⌝ }
+    ensures { λ r. ⌜ r ≡ partOf (now (state .entry)) storePlace longestContent ⌝ }
 {
-    let mut store = [0u8; 1035];
-    octets::copy(octets::behind(state, 12), &mut store, 0);
+    let mut store = [0u8; CONTENT_MOST];
+    octets::copy(octets::behind(state, STORE), &mut store, 0);
     store
 }
 
 fn keep(reader: Reader, state: &mut [u8])
-    requires { ⌜ 1047 ≤ length (now state) ⌝ }
+    requires { ⌜ readerBytes ≤ length (now state) ⌝ }
     ensures { λ _. ⌜ now (state .exit) ≡ over (bytesOf reader) (now (state .entry)) ⌝ }
 {
     let words = [
@@ -95,7 +113,7 @@ fn keep(reader: Reader, state: &mut [u8])
     ];
     let store = reader.store;
     flat::store(&words, state);
-    octets::copy(&store, state, 12);
+    octets::copy(&store, state, STORE);
 }
 
 fn flag_of(set: bool) -> u32
