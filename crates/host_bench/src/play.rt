@@ -1,4 +1,9 @@
-// The host's session and its scripted partner: what is heard and what is sent is printed.
+// The cases, step by step. In a table each step has a letter:
+//   t  a title                                          f  a frame is heard: command and payload
+//   l  what is lent from now on: place and length of    x  a line of text is heard
+//      the image, and how many bytes the output has     w  so many milliseconds pass
+//   o  opens: type, rate, wish, start, same             s  where the session stands
+//   p  the same, and the rate is accepted; not shown
 use host::Event;
 use host::Session;
 use refusals::Written;
@@ -12,90 +17,187 @@ use stages::Rate;
 use stages::Same;
 use stages::Start;
 
-// Most cases load these: two pieces of 8 bytes, or one of 16. The ninth is the head mark, which is escaped.
-pub(crate) const IMAGE: [u8; 16] = [
-    0x11,
-    0x12,
-    0x13,
-    0x14,
-    0x15,
-    0x16,
-    0x17,
-    0x18,
-    0xDB,
-    0x22,
-    0x23,
-    0x24,
-    0x25,
-    0x26,
-    0x27,
-    0x28,
-];
-
-// Opens a session that loads the image as type 1.
-pub(crate) fn open(first: Rate, wish: usize, start: Start, same: Same) -> Session {
-    let mut out = [0u8; 64];
-    open_with(1, &IMAGE, first, wish, start, same, &mut out)
+// The session, how far the table is played, and what is lent.
+struct Playing {
+    session: Session,
+    at: usize,
+    place: usize,
+    length: usize,
+    room: usize,
 }
 
-// Opens a session with this image and output.
-pub(crate) fn open_with(
-    number: u16,
+// No table has more steps than bytes.
+pub(crate) fn play(table: &[u8], images: &[u8]) {
+    let mut next = begun();
+    let mut turns = table.len();
+    while turns > 0 && next.at < table.len() {
+        next = turn(next, octets::behind(table, next.at), images);
+        turns -= 1;
+    }
+}
+
+// An opening that is refused.
+fn begun() -> Playing {
+    let stepped = Session::opening(
+        0,
+        b"",
+        Rate::R9600,
+        0,
+        Start::AtOnce,
+        Same::Stop,
+        &mut [0u8; 0],
+    );
+    let session = stepped.session;
+    Playing {
+        session: session,
+        at: 0,
+        place: 0,
+        length: 0,
+        room: 0,
+    }
+}
+
+// The step at the front of what is left.
+fn turn(playing: Playing, rest: &[u8], images: &[u8]) -> Playing {
+    let letter = octets::byte_at(rest, 0);
+    let count = octets::byte_at(rest, 1) as usize;
+    let head = std::num::wrapping_add_usize(count, 2);
+    let behind = octets::behind(rest, head);
+    let words = octets::part(behind, 0, octets::text_length(behind));
+    let bytes = octets::part(rest, 2, count);
+    let size = std::num::wrapping_add_usize(head, std::num::wrapping_add_usize(words.len(), 1));
+    let next = on(playing, size);
+    if letter == b'l' {
+        return lent(next, bytes);
+    }
+    played(next, letter, bytes, words, images)
+}
+
+fn on(playing: Playing, size: usize) -> Playing {
+    let mut next = playing;
+    next.at = std::num::wrapping_add_usize(playing.at, size);
+    next
+}
+
+fn lent(playing: Playing, bytes: &[u8]) -> Playing {
+    let mut next = playing;
+    next.place = octets::four_at(bytes, 0) as usize;
+    next.length = octets::four_at(bytes, 4) as usize;
+    next.room = octets::byte_at(bytes, 8) as usize;
+    next
+}
+
+// A step over the image and the output that are lent.
+fn played(playing: Playing, letter: u8, bytes: &[u8], words: &[u8], images: &[u8]) -> Playing {
+    let n = playing.room;
+    if n > 64 {
+        return playing;
+    }
+    let image = octets::part(images, playing.place, playing.length);
+    let session = playing.session;
+    let mut out = [0u8; 64];
+    let mut next = playing;
+    next.session = step(session, letter, bytes, words, image, &mut out[..n]);
+    next
+}
+
+fn step(
+    session: Session,
+    letter: u8,
+    bytes: &[u8],
+    words: &[u8],
     image: &[u8],
-    first: Rate,
-    wish: usize,
-    start: Start,
-    same: Same,
     out: &mut [u8],
 ) -> Session {
-    let stepped = Session::opening(number, image, first, wish, start, same, out);
+    match letter {
+        b'f' => hear(session, bytes, image, out),
+        b'x' => hear_line(session, words, image, out),
+        b'w' => wait(session, octets::two_at(bytes, 0) as u32, image, out),
+        b'o' => open(bytes, image, out),
+        b'p' => open_quietly(bytes, image, out),
+        _ => show(session, letter, words),
+    }
+}
+
+// Steps that give the session nothing.
+fn show(session: Session, letter: u8, words: &[u8]) -> Session {
+    if letter == b's' {
+        show_session(session);
+        return session;
+    }
+    console::say(b"\n");
+    console::say(words);
+    console::say(b"\n");
+    session
+}
+
+fn open(bytes: &[u8], image: &[u8], out: &mut [u8]) -> Session {
+    let stepped = opening(bytes, image, out);
     let session = stepped.session;
     let answer = stepped.answer;
     show_answer(answer, out);
     session
 }
 
-// The module answers the rate.
-pub(crate) fn rate(session: Session, number: u8, ack: u8) -> Session {
-    hear(session, commands::RATE, &[number, ack])
+// Opens, and the module accepts the rate; only what comes then is shown.
+fn open_quietly(bytes: &[u8], image: &[u8], out: &mut [u8]) -> Session {
+    let opened = opening(bytes, image, out);
+    let asked = opened.session;
+    let accepted = [octets::byte_at(bytes, 1), commands::ACCEPTED];
+    let event = arrived(commands::RATE, &accepted);
+    let rated = asked.step(event, &accepted, image, out);
+    rated.session
 }
 
-// The module accepts the parameters, with MaxPk 1,024.
-pub(crate) fn parameters(session: Session) -> Session {
-    hear(session, commands::PARAMETERS, &[0x00, 0x04, 0x00])
+fn opening(bytes: &[u8], image: &[u8], out: &mut [u8]) -> host::Stepped {
+    Session::opening(
+        octets::byte_at(bytes, 0) as u16,
+        image,
+        rate_of(octets::byte_at(bytes, 1)),
+        octets::two_at(bytes, 2) as usize,
+        start_of(octets::byte_at(bytes, 4)),
+        same_of(octets::byte_at(bytes, 5)),
+        out,
+    )
 }
 
-// The module answers a packet.
-pub(crate) fn packet(session: Session, number: u8, ack: u8) -> Session {
-    hear(session, commands::PACKET, &[number, 0x00, ack])
+fn rate_of(number: u8) -> Rate {
+    match number {
+        1 => Rate::R9600,
+        2 => Rate::R19200,
+        3 => Rate::R38400,
+        4 => Rate::R57600,
+        _ => Rate::R115200,
+    }
 }
 
-// The module reports how the load went.
-pub(crate) fn notice(session: Session, state: u8) -> Session {
-    hear(session, commands::NOTICE, &[state])
+fn start_of(number: u8) -> Start {
+    if number == 1 {
+        Start::WithText
+    } else {
+        Start::AtOnce
+    }
 }
 
-// The module answers the restart.
-pub(crate) fn restart(session: Session, ack: u8) -> Session {
-    hear(session, commands::RESTART, &[ack])
+fn same_of(number: u8) -> Same {
+    if number == 1 { Same::GoOn } else { Same::Stop }
 }
 
-// A frame is heard.
-fn hear(session: Session, command: u8, payload: &[u8]) -> Session {
+// A frame of the module is heard, as it comes on the wire.
+fn hear(session: Session, bytes: &[u8], image: &[u8], out: &mut [u8]) -> Session {
+    let command = octets::byte_at(bytes, 0);
+    let payload = octets::behind(bytes, 1);
     show_heard(command, payload);
-    take(session, arrived(command, payload), payload)
+    take(session, arrived(command, payload), payload, image, out)
 }
 
-// A frame is heard, with this image and output.
-pub(crate) fn hear_with(
-    session: Session,
-    command: u8,
-    payload: &[u8],
-    image: &[u8],
-    out: &mut [u8],
-) -> Session {
-    show_heard(command, payload);
-    take_with(session, arrived(command, payload), payload, image, out)
+fn show_heard(command: u8, payload: &[u8]) {
+    let mut wire = [0u8; 64];
+    let written = wire::write(command, payload, &mut wire);
+    match written {
+        Written::Count(n) => show_message(Side::Heard, PLACES, octets::part(&wire, 0, n)),
+        Written::Refused(number) => console::refusal(number),
+    }
 }
 
 // The event of a frame with this payload.
@@ -106,76 +208,27 @@ fn arrived(command: u8, payload: &[u8]) -> Event {
     }
 }
 
-// A frame of the module as it comes on the wire.
-fn show_heard(command: u8, payload: &[u8]) {
-    let mut wire = [0u8; 64];
-    let written = wire::write(command, payload, &mut wire);
-    match written {
-        Written::Count(n) => show_message(Side::Heard, PLACES, octets::part(&wire, 0, n)),
-        Written::Refused(number) => console::refusal(number),
-    }
-}
-
 // A line of text is heard, its CR LF with it.
-pub(crate) fn hear_line(session: Session, line: &[u8]) -> Session {
+fn hear_line(session: Session, line: &[u8], image: &[u8], out: &mut [u8]) -> Session {
     show_message(Side::Heard, PLACES, line);
-    take(session, Event::Line { count: line.len() }, line)
+    take(session, Event::Line { count: line.len() }, line, image, out)
 }
 
 // Milliseconds pass.
-pub(crate) fn wait(session: Session, ms: u32) -> Session {
+fn wait(session: Session, ms: u32, image: &[u8], out: &mut [u8]) -> Session {
     words_only(b"<", PLACES, b"");
     console::number(ms as usize);
     console::say(b" ms pass\n");
-    let next = take(session, Event::Elapsed(ms), b"");
+    let next = take(session, Event::Elapsed(ms), b"", image, out);
     show_session(next);
     next
 }
 
-// A step over the small image, with room for any message of it.
-fn take(session: Session, event: Event, bytes: &[u8]) -> Session {
-    let mut out = [0u8; 64];
-    take_with(session, event, bytes, &IMAGE, &mut out)
-}
-
 // A step, and what it answers.
-fn take_with(
-    session: Session,
-    event: Event,
-    bytes: &[u8],
-    image: &[u8],
-    out: &mut [u8],
-) -> Session {
+fn take(session: Session, event: Event, bytes: &[u8], image: &[u8], out: &mut [u8]) -> Session {
     let stepped = session.step(event, bytes, image, out);
     let next = stepped.session;
     let answer = stepped.answer;
     show_answer(answer, out);
     next
-}
-
-// A session whose rate and parameters are accepted, so that packet 1 is sent. Only its last answer is printed.
-pub(crate) fn at_packets(wish: usize, same: Same) -> Session {
-    let image = IMAGE;
-    let mut out = [0u8; 64];
-    let opened = Session::opening(
-        1,
-        &image,
-        Rate::R115200,
-        wish,
-        Start::AtOnce,
-        same,
-        &mut out,
-    );
-    let asked = opened.session;
-    let accepted = [0x05, 0x00];
-    let event = arrived(commands::RATE, &accepted);
-    let rated = asked.step(event, &accepted, &image, &mut out);
-    let declared = rated.session;
-    parameters(declared)
-}
-
-// A session whose only packet is accepted, so that the notice is awaited.
-pub(crate) fn at_notice() -> Session {
-    let sent = at_packets(1024, Same::Stop);
-    packet(sent, 1, commands::ACCEPTED)
 }

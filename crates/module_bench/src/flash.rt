@@ -22,13 +22,18 @@ const IMAGE: [u8; 14] = [
     0x42,
 ];
 
+// An erased flash.
+pub(crate) fn erased() -> [u8; FLASH] {
+    [0xFFu8; FLASH]
+}
+
 // Prints the bytes from 0x7FFC to 0x8017, and judges the whole flash: so many bytes of the image stand in it, and nothing else.
 pub(crate) fn show_flash(count: usize, flash: &[u8]) {
     show_line(0x7FFC, octets::part(flash, 0x7FFC, 4));
     show_line(0x8000, octets::part(flash, 0x8000, 16));
     show_line(0x8010, octets::part(flash, 0x8010, 8));
     let image = IMAGE;
-    let mut wanted = [0xFFu8; FLASH];
+    let mut wanted = erased();
     octets::copy(octets::part(&image, 0, count), &mut wanted, BASE);
     judge(count, flash, &wanted);
 }

@@ -1,0 +1,53 @@
+-- `play` is safe and ends: the count of turns falls.
+use borrow.Author.Needs.{needs}
+use Rattle.host_bench.proofs.play.play.Statement.{statement}
+use Rattle.host_bench.proofs.play.play.Tie as tie
+
+abbrev Inv-loop : tie.InvT-loop
+Inv-loop table images next₀ turns₀ next turns = Unit {0}
+
+abbrev μ-loop : tie.MeasureT-loop
+μ-loop table images next₀ turns₀ next turns = turns
+
+begun-requires : tie.Need-begun-requires Inv-loop μ-loop
+begun-requires c κs = search needs
+
+loop-holds : tie.Need-loop-holds Inv-loop μ-loop
+loop-holds c = search needs
+
+behind-requires : tie.Need-behind-requires Inv-loop μ-loop
+behind-requires c κs = search needs
+
+turn-requires : tie.Need-turn-requires Inv-loop μ-loop
+turn-requires c κs = search needs
+
+sub-turns : tie.Need-sub-turns Inv-loop μ-loop
+sub-turns c = search needs
+
+loop-less : tie.Need-loop-less Inv-loop μ-loop
+loop-less c = search needs
+
+loop-again : tie.Need-loop-again Inv-loop μ-loop
+loop-again c = search needs
+
+returns : tie.Need-returns Inv-loop μ-loop
+returns c = search needs
+
+returns-2 : tie.Need-returns-2 Inv-loop μ-loop
+returns-2 c = search needs
+
+pub play-spec : {M : Type 1} → statement M
+play-spec =
+    tie.close
+    (tie.spec
+    Inv-loop
+    μ-loop
+    begun-requires
+    loop-holds
+    behind-requires
+    turn-requires
+    sub-turns
+    loop-less
+    loop-again
+    returns
+    returns-2)
