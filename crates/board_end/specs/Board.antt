@@ -9,9 +9,9 @@ use Rattle.reader.specs.declared.steps.Heard.{Heard}
 use Rattle.reader.specs.declared.steps.Heard.the-variants.{Nothing, Frame, Dropped}
 use Rattle.module.specs.Step.{Left, stepOf}
 use Rattle.module.specs.declared.session.Session.{Session}
-use Rattle.module.specs.declared.session.Event.the-variants as event
-use Rattle.module.specs.declared.session.Answer.{Answer}
-use Rattle.module.specs.declared.session.Answer.the-variants as answer
+use Rattle.module_model.specs.declared.events.Event.the-variants as event
+use Rattle.module_model.specs.declared.events.Answer.{Answer}
+use Rattle.module_model.specs.declared.events.Answer.the-variants as answer
 use Rattle.board_end.specs.declared.board.Board.{Board}
 use Rattle.board_end.specs.declared.board.BoardStep.{BoardStep}
 

@@ -3,7 +3,7 @@ ghost use mathlib.Core.List.{[]};
 ghost use mathlib.Core.Path.{_≡_};
 ghost use lib.ListN.{length};
 ghost use Rattle.module.specs.Session.{takes};
-ghost use Rattle.module.specs.declared.session.Event.the-variants as Event;
+ghost use Rattle.module_model.specs.declared.events.Event.the-variants as Event;
 ghost use Rattle.kept_module.specs.Kept.{sessionIn, opened, keptOpening, kept, keptStep};
 
 #[no_mangle]

@@ -11,8 +11,8 @@ use Rattle.flat.specs.Words.{spelledAll, recorded, standsFor}
 use Rattle.flat.specs.WordsLaws.{length-spelled-all}
 use Rattle.flat.specs.Found.{recorded-alone}
 use Rattle.module.specs.Session.{openingOf}
-use Rattle.module.specs.declared.session.Phase.{Phase}
-use Rattle.module.specs.declared.session.Phase.the-variants.{Closed, Ready, Begun, Loading, Done}
+use Rattle.module_model.specs.declared.phases.Phase.{Phase}
+use Rattle.module_model.specs.declared.phases.Phase.the-variants.{Closed, Ready, Begun, Loading, Done}
 use Rattle.module.specs.declared.session.Session.{Session}
 use Rattle.module.specs.declared.session.Stepped.{Stepped}
 use Rattle.kept_module.specs.Kept.{recordBytes, wordsBy, wordsOf, fieldsIn, stands, sessionBy, sessionIn, answerNumber, opened, keptOpening}

@@ -13,15 +13,15 @@ use Rattle.kinds.specs.declared.Known.{Known}
 use Rattle.kinds.specs.declared.Known.the-variants.{Is, Unknown}
 use Rattle.module.specs.Session.{session, openingOf}
 use Rattle.module.specs.Step.{Left, stepOf}
-use Rattle.module.specs.Runs.{countIn}
-use Rattle.module.specs.declared.session.Transfer.{Transfer}
-use Rattle.module.specs.declared.session.Pieces.{Pieces}
-use Rattle.module.specs.declared.session.Phase.{Phase}
-use Rattle.module.specs.declared.session.Phase.the-variants.{Closed, Ready, Begun, Loading, Done}
+use Rattle.module_model.specs.Answers.{countIn}
+use Rattle.module_model.specs.declared.phases.Transfer.{Transfer}
+use Rattle.module_model.specs.declared.phases.Pieces.{Pieces}
+use Rattle.module_model.specs.declared.phases.Phase.{Phase}
+use Rattle.module_model.specs.declared.phases.Phase.the-variants.{Closed, Ready, Begun, Loading, Done}
 use Rattle.module.specs.declared.session.Session.{Session}
-use Rattle.module.specs.declared.session.Event.{Event}
-use Rattle.module.specs.declared.session.Answer.{Answer}
-use Rattle.module.specs.declared.session.Answer.the-variants.{Nothing, Sent, Refused}
+use Rattle.module_model.specs.declared.events.Event.{Event}
+use Rattle.module_model.specs.declared.events.Answer.{Answer}
+use Rattle.module_model.specs.declared.events.Answer.the-variants.{Nothing, Sent, Refused}
 use Rattle.flat.specs.Answers.{nothing, written}
 use Rattle.flat.specs.Words.{recorded, standsFor, lowHalf, highHalf}
 

@@ -13,12 +13,14 @@ use Rattle.kinds.specs.Kinds.{kindOf, numberOf}
 use Rattle.kinds.specs.KindsLaws.{kind-of-number, kind-spelled, fits-flash}
 use Rattle.kinds.specs.declared.Kind.{Kind}
 use Rattle.flat.specs.Words.{recorded, lowHalf, highHalf}
-use Rattle.module.specs.Session.{arises, takes, held, isClosed, closedArises}
-use Rattle.module.specs.SessionLaws.{takes-facts, loading-facts, loading-short, done-facts}
-use Rattle.module.specs.declared.session.Transfer.{Transfer}
-use Rattle.module.specs.declared.session.Pieces.{Pieces}
-use Rattle.module.specs.declared.session.Phase.{Phase}
-use Rattle.module.specs.declared.session.Phase.the-variants.{Closed, Ready, Begun, Loading, Done}
+use Rattle.module.specs.Session.{arises, takes}
+use Rattle.module_model.specs.Phases.{held, isClosed, closedArises}
+use Rattle.module.specs.SessionLaws.{takes-facts}
+use Rattle.module_model.specs.PhasesLaws.{loading-facts, loading-short, done-facts}
+use Rattle.module_model.specs.declared.phases.Transfer.{Transfer}
+use Rattle.module_model.specs.declared.phases.Pieces.{Pieces}
+use Rattle.module_model.specs.declared.phases.Phase.{Phase}
+use Rattle.module_model.specs.declared.phases.Phase.the-variants.{Closed, Ready, Begun, Loading, Done}
 use Rattle.module.specs.declared.session.Session.{Session}
 use Rattle.kept_module.specs.Kept.{recordBytes, rowOf, wordsBy, wordsOf, kindBy, kindIn, transferIn, piecesIn, phaseIn, fieldsIn, stands, sessionBy, sessionIn, keptOf}
 use Rattle.kept_module.specs.Promises.{KeptBack}

@@ -7,8 +7,8 @@ use lib.ListN.{length}
 use Rattle.flat.specs.Words.{recorded}
 use Rattle.flat.specs.Calls.{callsBy, bytesBy}
 use Rattle.module.specs.Session.{openingOf, arises}
-use Rattle.module.specs.Runs.{Given, Exchange, afterOf, runOf, AllBytes}
-use Rattle.module.specs.Promises.{opened}
+use Rattle.module_promises.specs.Runs.{Given, Exchange, afterOf, runOf, AllBytes}
+use Rattle.module_promises.specs.Promises.{opened}
 use Rattle.module.specs.declared.session.Session.{Session}
 use Rattle.kept_module.specs.Kept.{recordBytes, wordsOf, stands, sessionIn, answerNumber, Kept, keptAs, keptStep, keptOpening}
 

@@ -9,12 +9,13 @@ use lib.ListN.{length}
 use Rattle.octets.specs.Choice.{either-way}
 use Rattle.flat.specs.Words.{recorded}
 use Rattle.flat.specs.Calls.{callsBy, bytesBy}
-use Rattle.module.specs.Session.{longestIdle, openable, openingOf, arises}
+use Rattle.module_model.specs.Phases.{longestIdle, openable}
+use Rattle.module.specs.Session.{openingOf, arises}
 use Rattle.module.specs.Step.{Left, timeStep}
-use Rattle.module.specs.Runs.{Given, exchange, nextOf, afterOf, runOf, AllBytes}
-use Rattle.module.specs.Outcomes.{Step, refuses, sleeps, waits, hears, step-of}
-use Rattle.module.specs.Promises.{opened}
-use Rattle.module.specs.Arises.{reached-arises}
+use Rattle.module_promises.specs.Runs.{Given, exchange, nextOf, afterOf, runOf, AllBytes}
+use Rattle.module_promises.specs.Steps.{Step, refuses, sleeps, waits, hears, step-of}
+use Rattle.module_promises.specs.Promises.{opened, online}
+use Rattle.module_promises.specs.Arises.{reached-arises}
 use Rattle.module.specs.declared.session.Session.{Session}
 use Rattle.module.specs.declared.session.Stepped.{Stepped}
 use Rattle.kept_module.specs.Kept.{recordBytes, wordsOf, Kept, keptAs, keptStep, keptOf, keptOpening}
@@ -71,5 +72,5 @@ pub kept-run : KeptRun
 unfolding keptOpening
 kept-run st flash gs bytes f room =
     let open-test = le-ltb (length st) recordBytes room in
-    let runs = runs-kept st (opened flash) gs (reached-arises flash) (rw (opening-flash flash) f) bytes room in
+    let runs = runs-kept st (opened flash) gs (reached-arises (online flash)) (rw (opening-flash flash) f) bytes room in
     record { opening-answer = rw open-test; each = rw open-test (runs .0); bytes = rw open-test (runs .1) }

@@ -3,7 +3,7 @@ ghost use mathlib.Core.Path.{_≡_};
 ghost use mathlib.Core.List.{[]};
 ghost use lib.ListN.{length};
 ghost use Rattle.module.specs.Session.{takes};
-ghost use Rattle.module.specs.Runs.{countIn};
+ghost use Rattle.module_model.specs.Answers.{countIn};
 ghost use Rattle.kept_module.specs.Kept.{sessionIn, answerNumber, opened, keptOpening, kept, keptStep};
 use crate::reading::fields_in;
 use crate::reading::session_of;

@@ -22,19 +22,21 @@ use Rattle.commands.specs.Commands.{largestPacket, largestTotal, parametersComm
 use Rattle.commands.specs.Commands.{parametersFor, packetFor}
 use Rattle.stages.specs.declared.plan.Stage.{Stage}
 use Rattle.stages.specs.declared.plan.Stage.the-variants.{Text, Asking, Declaring, Sending, Noticing, Restarting}
-use Rattle.module.specs.Session.{openable, openingOf, totalOf}
-use Rattle.module.specs.Rules.{dataIn, placeOf}
-use Rattle.module.specs.Runs.{Given, Exchange, exchange, nextOf, payloadOf}
-use Rattle.module.specs.Outcomes.{Expects, first, later, Accepted, loading, done}
-use Rattle.module.specs.Said.{Quiet, Declares, Acknowledges, Turn, quiet, declares, writes, again, heardOf, turn-of}
-use Rattle.module.specs.Forward.{transferFor, type-read, length-read, total-read, number-read, data-read}
-use Rattle.module.specs.declared.session.Transfer.{Transfer}
-use Rattle.module.specs.declared.session.Pieces.{Pieces}
-use Rattle.module.specs.declared.session.Phase.{Phase}
-use Rattle.module.specs.declared.session.Phase.the-variants.{Closed, Begun}
+use Rattle.module_model.specs.Phases.{openable, totalOf}
+use Rattle.module.specs.Session.{openingOf}
+use Rattle.module_model.specs.Rules.{dataIn, placeOf}
+use Rattle.module_promises.specs.Runs.{Given, Exchange, exchange, nextOf, payloadOf}
+use Rattle.module_model.specs.Outcomes.{Expects, first, later, Accepted, loading, done}
+use Rattle.module_model.specs.Replies.{Quiet}
+use Rattle.module_promises.specs.Said.{Declares, Acknowledges, Turn, quiet, declares, writes, again, heardOf, turn-of}
+use Rattle.module_model.specs.Due.{transferFor, type-read, length-read, total-read, number-read, data-read}
+use Rattle.module_model.specs.declared.phases.Transfer.{Transfer}
+use Rattle.module_model.specs.declared.phases.Pieces.{Pieces}
+use Rattle.module_model.specs.declared.phases.Phase.{Phase}
+use Rattle.module_model.specs.declared.phases.Phase.the-variants.{Closed, Begun}
 use Rattle.module.specs.declared.session.Stepped.{Stepped}
-use Rattle.module.specs.declared.session.Event.{Event}
-use Rattle.module.specs.declared.session.Event.the-variants as event
+use Rattle.module_model.specs.declared.events.Event.{Event}
+use Rattle.module_model.specs.declared.events.Event.the-variants as event
 use Rattle.host.specs.Step.{Wishes}
 use Rattle.host.specs.declared.session.Phase as host-phase
 use Rattle.host.specs.declared.session.Phase.the-variants as host-at

@@ -18,10 +18,10 @@ use Rattle.commands.specs.Commands.{notice}
 use Rattle.stages.specs.declared.plan.Rate.{Rate}
 use Rattle.stages.specs.declared.plan.Start.{Start}
 use Rattle.stages.specs.declared.plan.Start.the-variants.{WithText, AtOnce}
-use Rattle.module.specs.RunsLaws.{heard-nothing}
-use Rattle.module.specs.Runs.{heardIn}
-use Rattle.module.specs.declared.session.Event.the-variants as module-event
-use Rattle.module.specs.declared.session.Event as module-declared
+use Rattle.module_promises.specs.RunsLaws.{heard-nothing}
+use Rattle.module_promises.specs.Runs.{heardIn}
+use Rattle.module_model.specs.declared.events.Event.the-variants as module-event
+use Rattle.module_model.specs.declared.events.Event as module-declared
 use Rattle.host.specs.Session.{firstStage, stepped, arises}
 use Rattle.host.specs.Messages.{messageOf}
 use Rattle.host.specs.Step.{Wishes, Left, left, planOf, waitingOf, endedOf, sends, planOpening, openingOf}

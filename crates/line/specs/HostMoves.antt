@@ -25,8 +25,8 @@ use Rattle.stages.specs.declared.plan.Plan.{Plan}
 use Rattle.stages.specs.declared.plan.Stage.{Stage}
 use Rattle.stages.specs.declared.plan.Stage.the-variants.{Text, Asking, Declaring, Sending, Noticing, Restarting}
 use Rattle.module.specs.Step.{wiresOf}
-use Rattle.module.specs.Runs.{heardIn}
-use Rattle.module.specs.RunsLaws.{heard-wires, heard-nothing}
+use Rattle.module_promises.specs.Runs.{heardIn}
+use Rattle.module_promises.specs.RunsLaws.{heard-wires, heard-nothing}
 use Rattle.host.specs.Session.{stepped, arises}
 use Rattle.host.specs.SessionLaws.{WaitOf, wait-facts}
 use Rattle.host.specs.Messages.{messageOf}

@@ -6,10 +6,10 @@ use Rattle.octets.specs.Octets.{Bytes}
 use Rattle.wire.specs.Frame.{Frame}
 use Rattle.module.specs.Session as module-session
 use Rattle.module.specs.Step as module-step
-use Rattle.module.specs.Runs.{heardIn}
-use Rattle.module.specs.Runs as module-runs
+use Rattle.module_promises.specs.Runs.{heardIn}
+use Rattle.module_promises.specs.Runs as module-runs
 use Rattle.module.specs.declared.session.Session as module-declared
-use Rattle.module.specs.declared.session.Event.the-variants as module-event
+use Rattle.module_model.specs.declared.events.Event.the-variants as module-event
 use Rattle.host.specs.Step as host-step
 use Rattle.host.specs.Runs as host-runs
 use Rattle.host.specs.declared.session.Session as host-declared

@@ -28,24 +28,29 @@ use Rattle.stages.specs.declared.plan.Start.the-variants.{WithText, AtOnce}
 use Rattle.stages.specs.declared.plan.Plan.{Plan}
 use Rattle.stages.specs.declared.plan.Stage.{Stage}
 use Rattle.stages.specs.declared.plan.Stage.the-variants.{Asking, Declaring, Sending, Noticing, Restarting}
-use Rattle.module.specs.Session.{largestFlash, session, totalOf, takes}
-use Rattle.module.specs.SessionLaws.{cut-length, facts-done, facts-takes, takes-facts}
-use Rattle.module.specs.Rules.{framesOf, dataIn, taken, placeOf, rateAck, decideOf}
-use Rattle.module.specs.RulesLaws.{RateOf, rate-yes, rate-one, restart-none, state-whole, decide-rate, decide-restart}
+use Rattle.module_model.specs.Phases.{largestFlash, totalOf}
+use Rattle.module.specs.Session.{session, takes}
+use Rattle.module_model.specs.PhasesLaws.{cut-length, facts-done}
+use Rattle.module.specs.SessionLaws.{facts-takes, takes-facts}
+use Rattle.module_model.specs.Rules.{framesOf, dataIn, taken, placeOf, rateAck, decideOf}
+use Rattle.module_model.specs.RulesLaws.{RateOf, rate-yes, rate-one, restart-none, state-whole, decide-rate, decide-restart}
 use Rattle.module.specs.Step.{smallestReply, performed}
 use Rattle.module.specs.Step as module-step
-use Rattle.module.specs.Runs.{Offer, Exchange, exchange, given, carried, carriedAfter, heardIn}
-use Rattle.module.specs.Runs as module-runs
-use Rattle.module.specs.RunsLaws.{heard-wires, heard-nothing, heard-performed}
-use Rattle.module.specs.Promises.{Frames}
-use Rattle.module.specs.Clean.{one-packet, same-packet}
-use Rattle.module.specs.Forward.{transferFor, parameters-accepted, counted-takes}
-use Rattle.module.specs.Forward.{Carries, piece-facts, data-read, waiting, waiting-none, waiting-some, waiting-takes, writtenWith}
-use Rattle.module.specs.Forward.{packet-taken, taken-waits, taken-done, frame-taken}
-use Rattle.module.specs.declared.session.Pieces.{Pieces}
-use Rattle.module.specs.declared.session.Phase.the-variants.{Closed, Begun, Done}
+use Rattle.module_promises.specs.Runs.{Offer, Exchange, exchange, given, carried, carriedAfter, heardIn}
+use Rattle.module_promises.specs.Runs as module-runs
+use Rattle.module_promises.specs.RunsLaws.{heard-wires, heard-nothing, heard-performed}
+use Rattle.module_promises.specs.Promises.{Frames}
+use Rattle.module_promises.specs.Clean.{one-packet, same-packet}
+use Rattle.module_model.specs.Due.{transferFor, parameters-accepted}
+use Rattle.module_promises.specs.Forward.{counted-takes}
+use Rattle.module_model.specs.Due.{Carries, piece-facts, data-read, waiting, waiting-none, waiting-some, writtenWith}
+use Rattle.module_promises.specs.Forward.{waiting-takes}
+use Rattle.module_model.specs.Due.{packet-taken, taken-waits, taken-done}
+use Rattle.module_promises.specs.Forward.{frame-taken}
+use Rattle.module_model.specs.declared.phases.Pieces.{Pieces}
+use Rattle.module_model.specs.declared.phases.Phase.the-variants.{Closed, Begun, Done}
 use Rattle.module.specs.declared.session.Session.{Session as ModuleSession}
-use Rattle.module.specs.declared.session.Event.the-variants as module-event
+use Rattle.module_model.specs.declared.events.Event.the-variants as module-event
 use Rattle.host.specs.Step as host-step
 use Rattle.host.specs.Step.{Wishes, planOf, openingOf}
 use Rattle.host.specs.Arises.{first-fits}
@@ -477,7 +482,7 @@ module _ (image output reply : List ℕ) where
           flash-whole =
               let os = map offerOf (packetFrames image size total 1) in
               let e = frames-succeed s flash (plan .kind) image size (offerOf first ∷ os) opened long
-              (record { some = some; short = short; inside = inside; size-some = one; size-most = small; total-most = few })
+              (record { fitting = fitting; size-some = one; size-most = small; total-most = few })
               (each-offered (first ∷ packetFrames image size total 1)) in
               sym (carried-on (offerOf first) os s _ flash flash (begun .session-is) (begun .flash-is))
               ∙ carried-last (offerOf first ∷ os) s flash (e .before) (e .last) (e .split)

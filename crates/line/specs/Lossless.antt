@@ -9,8 +9,8 @@ use Rattle.wire.specs.Frame.{Frame}
 use Rattle.commands.specs.Commands.{startAnswer}
 use Rattle.stages.specs.declared.plan.Start.{Start}
 use Rattle.stages.specs.declared.plan.Start.the-variants.{WithText, AtOnce}
-use Rattle.module.specs.Runs as module-runs
-use Rattle.module.specs.Runs.{heardIn}
+use Rattle.module_promises.specs.Runs as module-runs
+use Rattle.module_promises.specs.Runs.{heardIn}
 use Rattle.host.specs.Step as host-step
 use Rattle.host.specs.Step.{Wishes, openingOf}
 use Rattle.host.specs.Runs as host-runs

@@ -23,11 +23,11 @@ use Rattle.reader.specs.declared.steps.Heard.{Heard}
 use Rattle.reader.specs.declared.steps.Heard.the-variants.{Nothing, Frame as Whole, Dropped}
 use Rattle.module.specs.Session.{takes}
 use Rattle.module.specs.Step.{Left, wiresOf}
-use Rattle.module.specs.Runs.{Exchange, Offer, exchange, given, carried}
-use Rattle.module.specs.RunsLaws.{ShortFrames}
-use Rattle.module.specs.Promises.{Frames, Fits, EndsInSuccess}
+use Rattle.module_promises.specs.Runs.{Exchange, Offer, exchange, given, carried}
+use Rattle.module_promises.specs.RunsLaws.{ShortFrames}
+use Rattle.module_promises.specs.Promises.{Frames, Fits, EndsInSuccess}
 use Rattle.module.specs.declared.session.Session.{Session}
-use Rattle.module.specs.declared.session.Event.the-variants as event
+use Rattle.module_model.specs.declared.events.Event.the-variants as event
 use Rattle.host.specs.Promises.{packetsSent}
 use Rattle.board_end.specs.Board.{BoardLeft, boardWith, beside, heardBy, frameHeard, boardHears}
 use Rattle.line.specs.Feeds.{Fed, bytesOf, Roomy, hearsFed, BoardAfter, boardAfter, fedOf, cleanBytes}

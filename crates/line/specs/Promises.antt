@@ -15,8 +15,9 @@ use Rattle.reader.specs.Promises.{Any}
 use Rattle.stages.specs.Answers.{pieceSize}
 use Rattle.stages.specs.declared.plan.Rate.{Rate}
 use Rattle.stages.specs.declared.plan.Stage.the-variants.{Restarting}
-use Rattle.module.specs.Promises.{Fits}
-use Rattle.module.specs.Runs.{countIn, heardIn}
+use Rattle.module_promises.specs.Promises.{Fits}
+use Rattle.module_promises.specs.Runs.{heardIn}
+use Rattle.module_model.specs.Answers.{countIn}
 use Rattle.module.specs.Session.{takes}
 use Rattle.module.specs.Step.{smallestReply}
 use Rattle.host.specs.Step.{Wishes, openingOf}

@@ -15,9 +15,9 @@ use Rattle.stages.specs.Answers.{pieceSize}
 use Rattle.stages.specs.declared.plan.Rate.{Rate}
 use Rattle.stages.specs.declared.plan.Stage.{Stage}
 use Rattle.stages.specs.declared.plan.Stage.the-variants.{Text, Asking, Declaring, Sending, Noticing, Restarting}
-use Rattle.module.specs.Forward.{transferFor}
-use Rattle.module.specs.declared.session.Phase as module-phase
-use Rattle.module.specs.declared.session.Phase.the-variants.{Closed, Ready, Begun, Loading, Done}
+use Rattle.module_model.specs.Due.{transferFor}
+use Rattle.module_model.specs.declared.phases.Phase as module-phase
+use Rattle.module_model.specs.declared.phases.Phase.the-variants.{Closed, Ready, Begun, Loading, Done}
 use Rattle.host.specs.Session.{arises}
 use Rattle.host.specs.Step.{Wishes, planOf}
 use Rattle.host.specs.declared.session.Phase as host-phase

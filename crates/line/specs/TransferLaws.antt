@@ -12,12 +12,13 @@ use Rattle.pieces.specs.Pieces.{countOf}
 use Rattle.wire.specs.Frame.{Frame, longestPayload}
 use Rattle.commands.specs.Commands.{largestPacket, parametersFrame, packetFrame}
 use Rattle.commands.specs.CommandsLaws.{length-packet, piece-most}
-use Rattle.module.specs.Session.{longestIdle, takes}
+use Rattle.module_model.specs.Phases.{longestIdle}
+use Rattle.module.specs.Session.{takes}
 use Rattle.module.specs.SessionLaws.{takes-facts}
-use Rattle.module.specs.Runs.{Offer, carried}
-use Rattle.module.specs.RunsLaws.{ShortFrames}
-use Rattle.module.specs.Promises.{Frames, PacketsFrom, CleanTransfer, Fits, EndsInSuccess}
-use Rattle.module.specs.Clean.{clean-succeeds}
+use Rattle.module_promises.specs.Runs.{Offer, carried}
+use Rattle.module_promises.specs.RunsLaws.{ShortFrames}
+use Rattle.module_promises.specs.Promises.{Frames, PacketsFrom, CleanTransfer, Fits, EndsInSuccess}
+use Rattle.module_promises.specs.Clean.{clean-succeeds}
 use Rattle.module.specs.declared.session.Session.{Session}
 
 -- ---- lists

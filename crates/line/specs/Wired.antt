@@ -7,8 +7,8 @@ use Rattle.wire.specs.Frame.{Frame}
 use Rattle.reader.specs.Reader as reader
 use Rattle.reader.specs.declared.steps.Reader.{Reader}
 use Rattle.module.specs.Session as module-session
-use Rattle.module.specs.Runs.{heardIn}
-use Rattle.module.specs.Runs as module-runs
+use Rattle.module_promises.specs.Runs.{heardIn}
+use Rattle.module_model.specs.Answers as module-answers
 use Rattle.host.specs.Step as host-step
 use Rattle.host.specs.Runs as host-runs
 use Rattle.board_end.specs.Board.{BoardLeft, boardOf, boardHears, boardWaits}
@@ -57,7 +57,7 @@ boardFed x l = record {
   board = l .board;
   flash = l .flash;
   from-host = x .from-host;
-  from-board = x .from-board ++ heardIn (take (module-runs.countIn (l .answer)) (l .reply));
+  from-board = x .from-board ++ heardIn (take (module-answers.countIn (l .answer)) (l .reply));
 }
 
 abbrev pub hostFed : Wired → HostLeft → Wired

@@ -20,9 +20,9 @@ use Rattle.reader.specs.declared.steps.Reader.{Reader}
 use Rattle.reader.specs.declared.steps.Heard.{Heard}
 use Rattle.reader.specs.declared.steps.Heard.the-variants.{Nothing, Frame as Whole, Dropped}
 use Rattle.module.specs.Step as module-step
-use Rattle.module.specs.Runs.{heardIn}
-use Rattle.module.specs.RunsLaws.{heard-nothing}
-use Rattle.module.specs.declared.session.Event.the-variants as module-event
+use Rattle.module_promises.specs.Runs.{heardIn}
+use Rattle.module_promises.specs.RunsLaws.{heard-nothing}
+use Rattle.module_model.specs.declared.events.Event.the-variants as module-event
 use Rattle.host.specs.Step as host-step
 use Rattle.host.specs.Step.{Wishes, openingOf}
 use Rattle.host.specs.declared.session.Phase.{Phase}

@@ -1,28 +1,16 @@
 -- The session: its opening, whether it is open, and which numbers of a session can arise.
-use Prim.Native.Nat.{ℕ, _*_}
-use mathlib.Core.Bool.{Bool, true, false, cond, _&&_, _||_}
+use Prim.Native.Nat.{ℕ}
+use mathlib.Core.Bool.{Bool, cond, _&&_, _||_}
 use mathlib.Core.List.{List}
-use lib.Dec.{eqb, ltb, leb}
 use lib.ListN.{length}
 use Rattle.refusals.specs.Refusals.{wrongLength}
-use Rattle.kinds.specs.Kinds.{fitsFlash}
-use Rattle.pieces.specs.Pieces.{countOf}
-use Rattle.commands.specs.Commands.{largestPacket, largestTotal}
-use Rattle.module.specs.declared.session.Transfer.{Transfer}
-use Rattle.module.specs.declared.session.Pieces.{Pieces}
-use Rattle.module.specs.declared.session.Phase.{Phase}
-use Rattle.module.specs.declared.session.Phase.the-variants.{Closed, Ready, Begun, Loading, Done}
+use Rattle.module_model.specs.Phases.{openable, alive, held, isClosed, closedArises}
+use Rattle.module_model.specs.declared.phases.Phase.{Phase}
+use Rattle.module_model.specs.declared.phases.Phase.the-variants.{Closed, Ready}
+use Rattle.module_model.specs.declared.events.Answer.{Answer}
+use Rattle.module_model.specs.declared.events.Answer.the-variants.{Nothing, Refused}
 use Rattle.module.specs.declared.session.Session.{Session}
-use Rattle.module.specs.declared.session.Answer.{Answer}
-use Rattle.module.specs.declared.session.Answer.the-variants.{Nothing, Refused}
 use Rattle.module.specs.declared.session.Stepped.{Stepped}
-
--- The largest flash, and the longest idle sum of an open session.
-abbrev pub largestFlash : ℕ
-largestFlash = 262144
-
-abbrev pub longestIdle : ℕ
-longestIdle = 7000
 
 abbrev pub session : ℕ → ℕ → Phase → Session
 session flash idle phase = record { flash = flash; idle = idle; phase = phase }
@@ -30,65 +18,15 @@ session flash idle phase = record { flash = flash; idle = idle; phase = phase }
 abbrev pub stepped : Session → Answer → Stepped
 stepped s a = record { session = s; answer = a }
 
--- A session can be opened over a flash of 1 to 262,144 bytes.
-unfoldable pub openable : ℕ → Bool
-openable n = leb 1 n && leb n largestFlash
-
 -- The opening: a ready session with no transfer, or 3 and a closed one that keeps the length.
 unfoldable pub openingOf : List ℕ → Stepped
 openingOf flash =
     cond (openable (length flash)) (stepped (session (length flash) 0 Ready) Nothing)
     (stepped (session (length flash) 0 Closed) (Refused wrongLength))
 
--- The Total of a transfer whose packet size is set.
-abbrev pub totalOf : Pieces → ℕ
-totalOf p = countOf (p .transfer .length) (p .size)
-
--- ---- which numbers can arise
-
--- An open session has a flash that could be opened and an idle sum of at most 7,000.
-unfoldable pub alive : ℕ → ℕ → Bool
-alive flash idle = openable flash && leb idle longestIdle
-
--- Its transfer passed the tests of its parameters.
-abbrev pub fits : Transfer → ℕ → Bool
-fits t flash = fitsFlash (t .kind) (t .length) flash
-
--- The packet size passed the tests of packet 1: 1 to 1,024, not over the length, and a Total that two bytes can carry.
-unfoldable pub cuts : Pieces → Bool
-cuts p = leb 1 (p .size) && (leb (p .size) largestPacket && (leb (p .size) (p .transfer .length) && leb (totalOf p) largestTotal))
-
--- While loading, packets 1 to number have been written, number being less than Total.
-unfoldable pub loadingArises : Pieces → ℕ → ℕ → ℕ → Bool
-loadingArises p flash number written =
-    fits (p .transfer) flash && (cuts p && (leb 1 number && (ltb number (totalOf p) && eqb written (number * p .size))))
-
--- When done, all of the length has been written.
-unfoldable pub doneArises : Pieces → ℕ → ℕ → Bool
-doneArises p flash written = fits (p .transfer) flash && (cuts p && eqb written (p .transfer .length))
-
--- What an open phase has gone through could arise over a flash.
-abbrev pub held : Phase → ℕ → Bool
-held Closed flash = false
-held Ready flash = true
-held (Begun t) flash = fits t flash
-held (Loading p number written) flash = loadingArises p flash number written
-held (Done p written) flash = doneArises p flash written
-
 -- A session takes events if it is open and could arise. Every other one is taken as closed.
 unfoldable pub takes : Session → Bool
 takes s = alive (s .flash) (s .idle) && held (s .phase) (s .flash)
-
-abbrev pub isClosed : Phase → Bool
-isClosed Closed = true
-isClosed Ready = false
-isClosed (Begun t) = false
-isClosed (Loading p number written) = false
-isClosed (Done p written) = false
-
--- A refused opening or an accepted 0x06 closes with the sum 0, over any flash; the sum closes at 7,001, where it stops.
-unfoldable pub closedArises : ℕ → ℕ → Bool
-closedArises flash idle = eqb idle 0 || (eqb idle 7001 && openable flash)
 
 -- The numbers of a session could arise from an opening under these rules.
 unfoldable pub arises : Session → Bool

@@ -7,17 +7,18 @@ use lib.ListN.{length, take}
 use Rattle.octets.specs.Octets.{over}
 use Rattle.refusals.specs.Refusals.{noRoom, wrongLength}
 use Rattle.wire.specs.Frame.{Frame, wireOf}
-use Rattle.module.specs.Session.{longestIdle, session, stepped, takes}
-use Rattle.module.specs.Rules.{framesOf, putOf, decideOf}
-use Rattle.module.specs.declared.session.Phase.the-variants.{Closed}
+use Rattle.module_model.specs.Phases.{longestIdle, closingIdle}
+use Rattle.module_model.specs.Rules.{framesOf, putOf, decideOf}
+use Rattle.module.specs.Session.{session, stepped, takes}
+use Rattle.module_model.specs.declared.phases.Phase.the-variants.{Closed}
+use Rattle.module_model.specs.declared.events.Event.{Event}
+use Rattle.module_model.specs.declared.events.Event.the-variants.{Elapsed}
+use Rattle.module_model.specs.declared.events.Event.the-variants as event
+use Rattle.module_model.specs.declared.events.Answer.{Answer}
+use Rattle.module_model.specs.declared.events.Answer.the-variants.{Nothing, Sent, Refused}
+use Rattle.module_model.specs.declared.rules.Decision.{Decision}
 use Rattle.module.specs.declared.session.Session.{Session}
-use Rattle.module.specs.declared.session.Event.{Event}
-use Rattle.module.specs.declared.session.Event.the-variants.{Elapsed}
-use Rattle.module.specs.declared.session.Event.the-variants as event
-use Rattle.module.specs.declared.session.Answer.{Answer}
-use Rattle.module.specs.declared.session.Answer.the-variants.{Nothing, Sent, Refused}
 use Rattle.module.specs.declared.session.Stepped.{Stepped}
-use Rattle.module.specs.declared.rules.Decision.{Decision}
 
 -- All that a step leaves.
 pub record Left : Type 0 where
@@ -57,7 +58,7 @@ frameStep s command payload flash reply = performed s (decideOf (s .phase) comma
 unfoldable pub timeStep : Session → ℕ → Stepped
 timeStep s ms =
     cond (leb ms (longestIdle - s .idle)) (stepped (session (s .flash) (s .idle + ms) (s .phase)) Nothing)
-    (stepped (session (s .flash) 7001 Closed) Nothing)
+    (stepped (session (s .flash) closingIdle Closed) Nothing)
 
 -- An event in an open session. The payload is the first count bytes of the slice, or all of it where it is shorter.
 abbrev pub eventStep : Session → Event → List ℕ → List ℕ → List ℕ → Left

@@ -18,28 +18,35 @@ use Rattle.refusals.specs.declared.Written.the-variants as writes
 use Rattle.wire.specs.Frame.{Frame, contentOf, wireOf}
 use Rattle.wire.specs.Write.{writeOf}
 use Rattle.wire.specs.WriteLaws.{wire-size, wire-most, write-done}
+use Rattle.module_model.specs.Rules.{framesOf, putOf, decideOf}
 use Rattle.module.specs.Session.{session, stepped, takes}
 use Rattle.module.specs.Step.{left, smallestReply, wiresOf, answerOf, performed, frameStep, timeStep, eventStep, stepOf}
-use Rattle.module.specs.Rules.{framesOf, putOf, decideOf}
+use Rattle.module_model.specs.declared.events.Event.{Event}
+use Rattle.module_model.specs.declared.events.Event.the-variants.{Elapsed}
+use Rattle.module_model.specs.declared.events.Event.the-variants as event
+use Rattle.module_model.specs.declared.events.Answer.{Answer}
+use Rattle.module_model.specs.declared.events.Answer.the-variants.{Sent, Refused}
+use Rattle.module_model.specs.declared.events.Answer.the-variants as answer
+use Rattle.module_model.specs.declared.rules.Decision.{Decision}
+use Rattle.module_model.specs.declared.rules.Say.{Say}
+use Rattle.module_model.specs.declared.rules.Say.the-variants.{Nothing}
 use Rattle.module.specs.declared.session.Session.{Session}
-use Rattle.module.specs.declared.session.Event.{Event}
-use Rattle.module.specs.declared.session.Event.the-variants.{Elapsed}
-use Rattle.module.specs.declared.session.Event.the-variants as event
-use Rattle.module.specs.declared.session.Answer.{Answer}
-use Rattle.module.specs.declared.session.Answer.the-variants.{Sent, Refused}
-use Rattle.module.specs.declared.session.Answer.the-variants as answer
-use Rattle.module.specs.declared.rules.Decision.{Decision}
-use Rattle.module.specs.declared.rules.Say.{Say}
-use Rattle.module.specs.declared.rules.Say.the-variants.{Nothing}
 
--- The wire form of a frame of at most three payload bytes stands at the front of the reply buffer.
+-- A short frame has at most three payload bytes, and its wire form at most 18.
+abbrev pub shortPayload : ℕ
+shortPayload = 3
+
+abbrev pub shortWire : ℕ
+shortWire = 18
+
+-- The wire form of a short frame stands at the front of the reply buffer.
 pub record Wrote (f : Frame) (n : ℕ) (before after : List ℕ) : Type 0 where
   pub count : n ≡ length (wireOf f)
-  pub most : n ≤ 18
+  pub most : n ≤ shortWire
   pub front : after ≡ over (wireOf f) before
 
 -- In a buffer of 18 bytes the writer never refuses such a frame.
-module _ (f : Frame) (before : List ℕ) (few : length (f .payload) ≤ 3) (room : 18 ≤ length before) where
+module _ (f : Frame) (before : List ℕ) (few : length (f .payload) ≤ shortPayload) (room : shortWire ≤ length before) where
   written-done : writeOf f before ≡ written.written (wireOf f) before
   written-done = write-done f before (omega arith) (omega (arith, wire-most f))
 

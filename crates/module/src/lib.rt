@@ -4,10 +4,10 @@ mod replies;
 mod rules;
 mod session;
 
-pub use session::Answer;
-pub use session::Event;
-pub use session::Phase;
-pub use session::Pieces;
+pub use module_model::Answer;
+pub use module_model::Event;
+pub use module_model::Phase;
+pub use module_model::Pieces;
+pub use module_model::Transfer;
 pub use session::Session;
 pub use session::Stepped;
-pub use session::Transfer;

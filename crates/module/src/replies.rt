@@ -4,16 +4,16 @@ ghost use Prim.Native.Nat.{_≤_};
 ghost use lib.ListN.{length};
 ghost use Rattle.octets.specs.Octets.{over};
 ghost use Rattle.commands.specs.Commands.{frame, packetReply};
-ghost use Rattle.module.specs.Rules.{framesOf};
-ghost use Rattle.module.specs.Step.{wiresOf, answerOf};
-ghost use Rattle.module.specs.StepLaws.{Wrote};
-use crate::rules::Say;
-use crate::session::Answer;
+ghost use Rattle.module_model.specs.Rules.{framesOf};
+ghost use Rattle.module.specs.Step.{smallestReply, wiresOf, answerOf};
+ghost use Rattle.module.specs.StepLaws.{shortPayload, shortWire, Wrote};
+use module_model::Answer;
+use module_model::Say;
 use refusals::Written;
 
 // Writes what is to be said at the front of the reply buffer.
 pub(crate) fn send(say: Say, reply: &mut [u8]) -> Answer
-    requires { ⌜ 64 ≤ length (now reply) ⌝ }
+    requires { ⌜ smallestReply ≤ length (now reply) ⌝ }
     ensures { λ r. ⌜ (r ≡ answerOf (framesOf say)) × (now (reply .exit) ≡ over (wiresOf (framesOf say)) (now (reply .entry))) ⌝ }
 {
     match say {
@@ -32,7 +32,7 @@ pub(crate) fn send(say: Say, reply: &mut [u8]) -> Answer
 
 // The acknowledgement of a packet.
 fn packet(number: usize, ack: u8, reply: &mut [u8]) -> usize
-    requires { ⌜ 64 ≤ length (now reply) ⌝ }
+    requires { ⌜ smallestReply ≤ length (now reply) ⌝ }
     ensures { λ r. ⌜ Wrote (packetReply number ack) r (now (reply .entry)) (now (reply .exit)) ⌝ }
 {
     one(
@@ -44,7 +44,7 @@ fn packet(number: usize, ack: u8, reply: &mut [u8]) -> usize
 
 // The acknowledgement of the last packet, and the notice behind it.
 fn last(number: usize, state: u8, reply: &mut [u8]) -> usize
-    requires { ⌜ 64 ≤ length (now reply) ⌝ }
+    requires { ⌜ smallestReply ≤ length (now reply) ⌝ }
     ensures { λ r. ⌜ (r ≡ length (wiresOf (framesOf (Say.Last number state))))
         × (now (reply .exit) ≡ over (wiresOf (framesOf (Say.Last number state))) (now (reply .entry))) ⌝ }
 {
@@ -54,7 +54,7 @@ fn last(number: usize, state: u8, reply: &mut [u8]) -> usize
 
 // One frame of at most three payload bytes.
 fn one(command: u8, payload: &[u8], reply: &mut [u8]) -> usize
-    requires { ⌜ (length (now payload) ≤ 3) × (18 ≤ length (now reply)) ⌝ }
+    requires { ⌜ (length (now payload) ≤ shortPayload) × (shortWire ≤ length (now reply)) ⌝ }
     ensures { λ r. ⌜ Wrote (frame command (now (payload .entry))) r (now (reply .entry)) (now (reply .exit)) ⌝ }
 {
     let written = wire::write(command, payload, reply);

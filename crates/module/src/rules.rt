@@ -1,70 +1,30 @@
 // The rules of the four commands. All of them decide and none writes: what to say, what to put where, and the phase after it.
 ghost use mathlib.Core.Path.{_≡_};
-ghost use Prim.Native.Nat.{_≤_, _<_};
-ghost use Rattle.module.specs.Session.{totalOf};
-ghost use Rattle.module.specs.Rules.{
-  unmoved,
-  rateAck,
-  rateDecision,
-  parametersDecision,
-  kindDecision,
-  restartDecision,
-  numbersIn,
-  wellFormed,
-  notTaken,
-  cutsInto,
-  placeOf,
-  isPacket,
-  isRepeat,
-  phaseAt,
-  stateOf,
-  sayOf,
-  acknowledged,
-  taken,
-  repeatDecision,
-  firstDecision,
-  loadingDecision,
-  doneDecision,
-  phaseDecision,
-  packetDecision,
-  decideOf,
-  putOf,
-};
-ghost use Rattle.module.specs.RulesLaws.{Bounded, BoundedPhase};
-use crate::session::Phase;
-use crate::session::Pieces;
-use crate::session::Transfer;
+ghost use Prim.Native.Nat.{_+_, _≤_, _<_};
+ghost use Rattle.commands.specs.Commands.{largestPacket, largestTotal};
+ghost use Rattle.module_model.specs.Phases.{totalOf};
+ghost use Rattle.module_model.specs.Rules.{unmoved, rateAck, rateDecision, parametersDecision, kindDecision, restartDecision};
+ghost use Rattle.module_model.specs.Rules.{numbersIn, wellFormed, notTaken, cutsInto, placeOf, isPacket, isRepeat, phaseAt};
+ghost use Rattle.module_model.specs.Rules.{stateOf, sayOf, acknowledged, taken, repeatDecision, firstDecision, loadingDecision};
+ghost use Rattle.module_model.specs.Rules.{doneDecision, phaseDecision, packetDecision, decideOf, putOf};
+ghost use Rattle.module_model.specs.PhasesLaws.{Bounded, BoundedPhase};
 use kinds::Kind;
 use kinds::Known;
-
-// What a reply says, by command; Last is the acknowledgement of the last packet with the notice behind it.
-pub(crate) enum Say {
-    Nothing,
-    Rate { rate: u8, ack: u8 },
-    Parameters { ack: u8 },
-    Packet { number: usize, ack: u8 },
-    Last { number: usize, state: u8 },
-    Restart { ack: u8 },
-}
-
-// Where the data of an accepted packet go.
-pub(crate) enum Put {
-    Nowhere,
-    At(usize),
-}
-
-pub(crate) struct Decision {
-    pub(crate) phase: Phase,
-    pub(crate) say: Say,
-    pub(crate) put: Put,
-}
-
-// The numbers of a packet; its data stand behind them in the payload.
-pub(crate) struct Numbers {
-    pub(crate) total: usize,
-    pub(crate) number: usize,
-    pub(crate) size: usize,
-}
+use module_model::ADDRESS_AT;
+use module_model::Decision;
+use module_model::LARGEST_PACKET;
+use module_model::LENGTH_AT;
+use module_model::Numbers;
+use module_model::PACKET_HEAD;
+use module_model::PARAMETERS_LENGTH;
+use module_model::Phase;
+use module_model::Pieces;
+use module_model::Put;
+use module_model::STATE_SHORT;
+use module_model::STATE_WHOLE;
+use module_model::Say;
+use module_model::TYPE_AT;
+use module_model::Transfer;
 
 // What a frame does to an open session.
 pub(crate) fn decide(phase: Phase, command: u8, payload: &[u8], flash: &[u8]) -> Decision
@@ -86,7 +46,7 @@ pub(crate) fn store(place: Put, payload: &[u8], flash: &mut [u8])
 {
     match place {
         Put::Nowhere => {}
-        Put::At(at) => octets::copy(octets::behind(payload, 6), flash, at),
+        Put::At(at) => octets::copy(octets::behind(payload, PACKET_HEAD), flash, at),
     }
 }
 
@@ -141,7 +101,7 @@ fn rate_ack(rate: u8) -> u8
 fn parameters(phase: Phase, payload: &[u8], flash: usize) -> Decision
     ensures { λ r. ⌜ r ≡ parametersDecision phase (now (payload .entry)) flash ⌝ }
 {
-    if payload.len() != 10 {
+    if payload.len() != PARAMETERS_LENGTH {
         return unmoved_say(
             phase,
             Say::Parameters {
@@ -149,7 +109,7 @@ fn parameters(phase: Phase, payload: &[u8], flash: usize) -> Decision
             },
         );
     }
-    let known = kinds::kind_of(octets::two_at(payload, 0));
+    let known = kinds::kind_of(octets::two_at(payload, TYPE_AT));
     match known {
         Known::Is(kind) => parameters_of(phase, kind, payload, flash),
         Known::Unknown => unmoved_say(
@@ -164,7 +124,7 @@ fn parameters(phase: Phase, payload: &[u8], flash: usize) -> Decision
 fn parameters_of(phase: Phase, kind: Kind, payload: &[u8], flash: usize) -> Decision
     ensures { λ r. ⌜ r ≡ kindDecision phase kind (now (payload .entry)) flash ⌝ }
 {
-    if octets::four_at(payload, 6) != kinds::token_of(kind) {
+    if octets::four_at(payload, ADDRESS_AT) != kinds::token_of(kind) {
         return unmoved_say(
             phase,
             Say::Parameters {
@@ -172,7 +132,7 @@ fn parameters_of(phase: Phase, kind: Kind, payload: &[u8], flash: usize) -> Deci
             },
         );
     }
-    let length = wide32(octets::four_at(payload, 2));
+    let length = wide32(octets::four_at(payload, LENGTH_AT));
     if !kinds::fits_flash(kind, length, flash) {
         return unmoved_say(
             phase,
@@ -221,7 +181,7 @@ fn packet(phase: Phase, payload: &[u8], flash: &[u8]) -> Decision
     if !well_formed(payload.len(), given.size) {
         return packet_refused(phase);
     }
-    packet_at(phase, given, octets::behind(payload, 6), flash)
+    packet_at(phase, given, octets::behind(payload, PACKET_HEAD), flash)
 }
 
 fn packet_refused(phase: Phase) -> Decision
@@ -253,14 +213,14 @@ fn well_formed(length: usize, size: usize) -> bool
     if size < 1 {
         return false;
     }
-    if 1024 < size {
+    if LARGEST_PACKET < size {
         return false;
     }
-    length == 6 + size
+    length == PACKET_HEAD + size
 }
 
 fn packet_at(phase: Phase, given: Numbers, bytes: &[u8], flash: &[u8]) -> Decision
-    requires { ⌜ BoundedPhase phase × (given .size ≤ 1024) ⌝ }
+    requires { ⌜ BoundedPhase phase × (given .size ≤ largestPacket) ⌝ }
     ensures { λ r. ⌜ r ≡ phaseDecision phase given (now (bytes .entry)) (now (flash .entry)) ⌝ }
 {
     match phase {
@@ -278,7 +238,7 @@ fn packet_at(phase: Phase, given: Numbers, bytes: &[u8], flash: &[u8]) -> Decisi
 
 // Packet 1 sets the size.
 fn first(transfer: Transfer, given: Numbers) -> Decision
-    requires { ⌜ given .size ≤ 1024 ⌝ }
+    requires { ⌜ given .size ≤ largestPacket ⌝ }
     ensures { λ r. ⌜ r ≡ firstDecision transfer given ⌝ }
 {
     if given.number != 1 {
@@ -313,7 +273,7 @@ fn next(
     bytes: &[u8],
     flash: &[u8],
 ) -> Decision
-    requires { ⌜ Bounded pieces number written × (given .size ≤ 1024) ⌝ }
+    requires { ⌜ Bounded pieces number written × (given .size ≤ largestPacket) ⌝ }
     ensures { λ r. ⌜ r ≡ loadingDecision pieces number written given (now (bytes .entry)) (now (flash .entry)) ⌝ }
 {
     if is_packet(pieces, number + 1, given) {
@@ -348,7 +308,7 @@ fn repeat(
     bytes: &[u8],
     flash: &[u8],
 ) -> Decision
-    requires { ⌜ (1 ≤ number) × (number ≤ 65535) × (pieces .size ≤ 1024) ⌝ }
+    requires { ⌜ (1 ≤ number) × (number ≤ largestTotal) × (pieces .size ≤ largestPacket) ⌝ }
     ensures { λ r. ⌜ r ≡ repeatDecision phase pieces number given (now (bytes .entry)) (now (flash .entry)) ⌝ }
 {
     if is_repeat(pieces, number, given, bytes, flash) {
@@ -373,7 +333,7 @@ fn is_packet(pieces: Pieces, number: usize, given: Numbers) -> bool
 
 // A repeat has the same bytes as the flash, too.
 fn is_repeat(pieces: Pieces, number: usize, given: Numbers, bytes: &[u8], flash: &[u8]) -> bool
-    requires { ⌜ (1 ≤ number) × (number ≤ 65535) × (pieces .size ≤ 1024) ⌝ }
+    requires { ⌜ (1 ≤ number) × (number ≤ largestTotal) × (pieces .size ≤ largestPacket) ⌝ }
     ensures { λ r. ⌜ r ≡ isRepeat pieces number given (now (bytes .entry)) (now (flash .entry)) ⌝ }
 {
     if !is_packet(pieces, number, given) {
@@ -387,7 +347,7 @@ fn is_repeat(pieces: Pieces, number: usize, given: Numbers, bytes: &[u8], flash:
 
 // An accepted packet goes to its place, and the session moves on.
 fn taken_at(pieces: Pieces, number: usize, written: usize) -> Decision
-    requires { ⌜ (1 ≤ number) × (number ≤ 65536) × (pieces .size ≤ 1024) ⌝ }
+    requires { ⌜ (1 ≤ number) × (number ≤ largestTotal + 1) × (pieces .size ≤ largestPacket) ⌝ }
     ensures { λ r. ⌜ r ≡ taken pieces number written ⌝ }
 {
     let phase = phase_at(pieces, number, written);
@@ -455,9 +415,9 @@ fn state_of(pieces: Pieces, written: usize) -> u8
 {
     let transfer = pieces.transfer;
     if written == transfer.length {
-        0x00
+        STATE_WHOLE
     } else {
-        0x01
+        STATE_SHORT
     }
 }
 
@@ -470,7 +430,7 @@ fn total_of(pieces: Pieces) -> usize
 
 // Where a packet is written: the base of the type's image, and the packets before it.
 fn place_of(pieces: Pieces, number: usize) -> usize
-    requires { ⌜ (1 ≤ number) × (number ≤ 65536) × (pieces .size ≤ 1024) ⌝ }
+    requires { ⌜ (1 ≤ number) × (number ≤ largestTotal + 1) × (pieces .size ≤ largestPacket) ⌝ }
     ensures { λ r. ⌜ r ≡ placeOf pieces number ⌝ }
 {
     let transfer = pieces.transfer;

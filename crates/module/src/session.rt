@@ -3,59 +3,29 @@ ghost use mathlib.Core.Path.{_≡_};
 ghost use Prim.Native.Nat.{_≤_};
 ghost use mathlib.Core.Bool.{true};
 ghost use lib.ListN.{length};
-ghost use Rattle.module.specs.Session.{openingOf, openable, stepped, alive, fits, cuts, loadingArises, doneArises, held, takes};
-ghost use Rattle.module.specs.Step.{left, frameStep, timeStep, stepOf};
+ghost use Rattle.module.specs.Session.{openingOf, stepped, takes};
+ghost use Rattle.module_model.specs.Phases.{openable, alive, fits, cuts, loadingArises, doneArises, held};
+ghost use Rattle.module.specs.Step.{left, smallestReply, frameStep, timeStep, stepOf};
 use crate::replies::send;
 use crate::rules::decide;
 use crate::rules::store;
-use kinds::Kind;
-
-// What accepted parameters declare.
-pub struct Transfer {
-    pub kind: Kind,
-    pub length: usize,
-}
-
-// A transfer with the packet size that packet 1 has set. Total follows from both.
-pub struct Pieces {
-    pub transfer: Transfer,
-    pub size: usize,
-}
-
-// Ready has no transfer; Begun waits for packet 1; Loading has accepted packets 1 to number and wants more; Done has them all.
-pub enum Phase {
-    Closed,
-    Ready,
-    Begun(Transfer),
-    Loading {
-        pieces: Pieces,
-        number: usize,
-        written: usize,
-    },
-    Done {
-        pieces: Pieces,
-        written: usize,
-    },
-}
+use module_model::Answer;
+use module_model::CLOSING_IDLE;
+use module_model::Event;
+use module_model::LARGEST_FLASH;
+use module_model::LARGEST_PACKET;
+use module_model::LARGEST_TOTAL;
+use module_model::LONGEST_IDLE;
+use module_model::Phase;
+use module_model::Pieces;
+use module_model::SMALLEST_REPLY;
+use module_model::Transfer;
 
 // The length of the flash at the opening, the milliseconds since the last frame, and how far the session is.
 pub struct Session {
     pub flash: usize,
     pub idle: u32,
     pub phase: Phase,
-}
-
-// A frame has arrived, with the first count bytes of the payload lent beside it; or milliseconds have passed.
-pub enum Event {
-    Frame { command: u8, count: usize },
-    Elapsed(u32),
-}
-
-// Nothing to send, so many bytes to send at the front of the reply buffer, or refused with a number.
-pub enum Answer {
-    Nothing,
-    Sent(usize),
-    Refused(u8),
 }
 
 pub struct Stepped {
@@ -105,7 +75,7 @@ impl Session {
         ensures { λ r. ⌜ left r (now (flash .exit)) (now (reply .exit))
             ≡ stepOf self event (now (payload .entry)) (now (flash .entry)) (now (reply .entry)) ⌝ }
     {
-        if reply.len() < 64 {
+        if reply.len() < SMALLEST_REPLY {
             return self.answers(Answer::Refused(refusals::NO_ROOM));
         }
         if flash.len() != self.flash {
@@ -124,7 +94,7 @@ impl Session {
 
     // An open session takes a frame: the rules decide, then flash and reply are written. The idle sum starts anew.
     fn frame(self, command: u8, payload: &[u8], flash: &mut [u8], reply: &mut [u8]) -> Stepped
-        requires { ⌜ (takes self ≡ true) × (64 ≤ length (now reply)) ⌝ }
+        requires { ⌜ (takes self ≡ true) × (smallestReply ≤ length (now reply)) ⌝ }
         ensures { λ r. ⌜ left r (now (flash .exit)) (now (reply .exit))
             ≡ frameStep self command (now (payload .entry)) (now (flash .entry)) (now (reply .entry)) ⌝ }
     {
@@ -149,7 +119,7 @@ impl Session {
         requires { ⌜ takes self ≡ true ⌝ }
         ensures { λ r. ⌜ r ≡ timeStep self ms ⌝ }
     {
-        if ms <= 7000 - self.idle {
+        if ms <= LONGEST_IDLE - self.idle {
             let phase = self.phase;
             return Session {
                 flash: self.flash,
@@ -159,7 +129,7 @@ impl Session {
         }
         Session {
             flash: self.flash,
-            idle: 7001,
+            idle: CLOSING_IDLE,
             phase: Phase::Closed,
         }.answers(Answer::Nothing)
     }
@@ -181,7 +151,7 @@ fn can_open(length: usize) -> bool
     if length < 1 {
         return false;
     }
-    length <= 262144
+    length <= LARGEST_FLASH
 }
 
 // Whether an open session has such a flash and such an idle sum.
@@ -191,7 +161,7 @@ fn is_alive(flash: usize, idle: u32) -> bool
     if !can_open(flash) {
         return false;
     }
-    idle <= 7000
+    idle <= LONGEST_IDLE
 }
 
 // Whether what an open phase has gone through could arise over a flash.
@@ -226,13 +196,13 @@ fn is_cut(pieces: Pieces) -> bool
     if pieces.size < 1 {
         return false;
     }
-    if 1024 < pieces.size {
+    if LARGEST_PACKET < pieces.size {
         return false;
     }
     if transfer.length < pieces.size {
         return false;
     }
-    pieces::count(transfer.length, pieces.size) <= 65535
+    pieces::count(transfer.length, pieces.size) <= LARGEST_TOTAL
 }
 
 fn is_loading(pieces: Pieces, flash: usize, number: usize, written: usize) -> bool

@@ -7,8 +7,8 @@ use lib.ListN.{length}
 use Rattle.octets.specs.Octets.{laid}
 use Rattle.commands.specs.Commands.{startText, startAnswer}
 use Rattle.module.specs.Session.{openingOf, takes}
-use Rattle.module.specs.declared.session.Answer.{Answer}
-use Rattle.module.specs.declared.session.Answer.the-variants.{Nothing, Sent}
+use Rattle.module_model.specs.declared.events.Answer.{Answer}
+use Rattle.module_model.specs.declared.events.Answer.the-variants.{Nothing, Sent}
 use Rattle.board_end.specs.Board.{BoardLeft, boardOf, boardHears, boardWaits}
 use Rattle.board_end.specs.declared.board.Board.{Board}
 use Rattle.host_end.specs.Text.{followed}

@@ -46,14 +46,14 @@ use denote.Exit.{yes}
 use Rattle.module.specs.Session.{stepped}
 use Rattle.module.specs.Step.{left, stepOf}
 use Rattle.module.specs.declared.session.Session.{Session}
-use Rattle.module.specs.declared.session.Event.{Event}
-use Rattle.module.specs.declared.session.Answer.{Answer}
+use Rattle.module_model.specs.declared.events.Event.{Event}
+use Rattle.module_model.specs.declared.events.Answer.{Answer}
 use Rattle.module.proofs.session.Session as T
 use Rattle.module.proofs.session.Session.Laws as T′
-use Rattle.module.proofs.session.Event as E
-use Rattle.module.proofs.session.Event.Laws as E′
-use Rattle.module.proofs.session.Answer as N
-use Rattle.module.proofs.session.Answer.Laws as N′
+use Rattle.module_model.proofs.events.Event as E
+use Rattle.module_model.proofs.events.Event.Laws as E′
+use Rattle.module_model.proofs.events.Answer as N
+use Rattle.module_model.proofs.events.Answer.Laws as N′
 use Rattle.module.proofs.session.Stepped as S
 use Rattle.module.proofs.session.Stepped.Laws as S′
 use Rattle.lent.proofs.step as step

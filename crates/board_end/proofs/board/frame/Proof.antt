@@ -1,7 +1,7 @@
 -- `frame`: what the session leaves after the payload in the store, beside the reader.
 use borrow.Author.Needs.{needs}
 use mathlib.Core.Path.{ap, _∙_}
-use Rattle.module.specs.declared.session.Event.the-variants.{Frame}
+use Rattle.module_model.specs.declared.events.Event.the-variants.{Frame}
 use Rattle.module.specs.Step.{stepOf}
 use Rattle.board_end.specs.Board.{beside, frameHeard}
 use Rattle.board_end.proofs.board.frame.Statement.{statement}

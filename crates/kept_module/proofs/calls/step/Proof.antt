@@ -6,9 +6,9 @@ use mathlib.Core.List.{List}
 use mathlib.Core.Path.{_≡_}
 use Rattle.flat.specs.Words.{recorded, standsFor}
 use Rattle.module.specs.Step.{Left, stepOf}
-use Rattle.module.specs.Runs.{countIn}
+use Rattle.module_model.specs.Answers.{countIn}
 use Rattle.module.specs.declared.session.Session.{Session}
-use Rattle.module.specs.declared.session.Event.{Event}
+use Rattle.module_model.specs.declared.events.Event.{Event}
 use Rattle.kept_module.specs.Kept.{wordsOf, fieldsIn, stands, sessionBy, sessionIn, keptOf, answerNumber, kept, keptStep}
 use Rattle.kept_module.proofs.calls.step.Statement.{statement}
 use Rattle.kept_module.proofs.calls.step.Tie as tie

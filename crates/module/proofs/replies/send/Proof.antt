@@ -2,8 +2,8 @@
 use borrow.Author.Needs.{needs}
 use mathlib.Core.Path.{ap}
 use Rattle.octets.specs.Octets.{spelled}
-use Rattle.commands.specs.Commands.{rateReply, parametersReply, packetReply, restartReply}
-use Rattle.module.specs.declared.session.Answer.the-variants.{Sent}
+use Rattle.commands.specs.Commands.{largestPacket, rateReply, parametersReply, packetReply, restartReply}
+use Rattle.module_model.specs.declared.events.Answer.the-variants.{Sent}
 use Rattle.module.specs.StepLaws.{says-same, says-nothing, sent-one}
 use Rattle.module.proofs.replies.send.Statement.{statement}
 use Rattle.module.proofs.replies.send.Tie as tie
@@ -68,7 +68,7 @@ returns-3 : tie.Need-returns-3
 unfolding spelled
 returns-3 c =
     says-same _ _ _ _ _ (c .before .before .before .before .before .before .say2 .given .1)
-    (sent-one (parametersReply 1024 _) _ _ _ (c .before .before .one2 .ensures))
+    (sent-one (parametersReply largestPacket _) _ _ _ (c .before .before .one2 .ensures))
 
 same-length-3 : tie.Need-same-length-3
 same-length-3 c = search needs

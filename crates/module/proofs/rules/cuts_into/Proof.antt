@@ -1,7 +1,7 @@
 -- `module::cuts_into`: Total 1 is tested by the length, any other by the count.
 use mathlib.Core.Path.{sym, ap, _∙_}
 use lib.Dec.{eqb}
-use Rattle.module.specs.RulesLaws.{cuts-one, cuts-more}
+use Rattle.module_model.specs.RulesLaws.{cuts-one, cuts-more}
 use borrow.Author.Needs.{needs}
 use Rattle.module.proofs.rules.cuts_into.Statement.{statement}
 use Rattle.module.proofs.rules.cuts_into.Tie as tie

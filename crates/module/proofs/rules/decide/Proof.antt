@@ -1,7 +1,7 @@
 -- `module::decide`: each arm is one case of the definition.
 use mathlib.Core.Path.{sym, ap, _∙_}
-use Rattle.module.specs.Rules.{decideOf}
-use Rattle.module.specs.RulesLaws.{decide-rate, decide-parameters, decide-packet, decide-restart, decide-other}
+use Rattle.module_model.specs.Rules.{decideOf}
+use Rattle.module_model.specs.RulesLaws.{decide-rate, decide-parameters, decide-packet, decide-restart, decide-other}
 use borrow.Author.Needs.{needs}
 use Rattle.module.proofs.rules.decide.Statement.{statement}
 use Rattle.module.proofs.rules.decide.Tie as tie

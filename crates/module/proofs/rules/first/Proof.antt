@@ -1,7 +1,7 @@
 -- `module::first`: the number is tested, then the size.
 use mathlib.Core.Path.{sym, _∙_}
 use Rattle.octets.specs.Choice.{passed, failed}
-use Rattle.module.specs.RulesLaws.{first-taken, first-number, first-refused}
+use Rattle.module_model.specs.RulesLaws.{first-taken, first-number, first-refused}
 use borrow.Author.Needs.{needs}
 use Rattle.module.proofs.rules.first.Statement.{statement}
 use Rattle.module.proofs.rules.first.Tie as tie

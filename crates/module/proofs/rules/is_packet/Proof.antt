@@ -1,7 +1,7 @@
 -- `module::is_packet`: each test is one fact of the packet.
 use mathlib.Core.Path.{sym, ap, _∙_}
 use lib.Dec.{eqb}
-use Rattle.module.specs.RulesLaws.{packet-no, packet-size}
+use Rattle.module_model.specs.RulesLaws.{packet-no, packet-size}
 use borrow.Author.Needs.{needs}
 use Rattle.module.proofs.rules.is_packet.Statement.{statement}
 use Rattle.module.proofs.rules.is_packet.Tie as tie

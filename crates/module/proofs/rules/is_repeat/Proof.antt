@@ -2,7 +2,7 @@
 use mathlib.Core.Path.{sym, ap, _∙_}
 use Rattle.octets.specs.Choice.{passed, failed}
 use Rattle.octets.specs.Octets.{partOf, sameBytes}
-use Rattle.module.specs.RulesLaws.{repeat-other, repeat-bytes}
+use Rattle.module_model.specs.RulesLaws.{repeat-other, repeat-bytes}
 use borrow.Author.Needs.{needs}
 use Rattle.module.proofs.rules.is_repeat.Statement.{statement}
 use Rattle.module.proofs.rules.is_repeat.Tie as tie

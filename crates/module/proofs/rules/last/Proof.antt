@@ -1,8 +1,8 @@
 -- `module::last`: a packet is looked at as a repeat of the last.
 use mathlib.Core.Path.{sym, ap, _∙_}
-use Rattle.module.specs.Rules.{repeatDecision}
-use Rattle.module.specs.RulesLaws.{done-repeat}
-use Rattle.module.specs.declared.session.Phase.the-variants.{Done}
+use Rattle.module_model.specs.Rules.{repeatDecision}
+use Rattle.module_model.specs.RulesLaws.{done-repeat}
+use Rattle.module_model.specs.declared.phases.Phase.the-variants.{Done}
 use borrow.Author.Needs.{needs}
 use Rattle.module.proofs.rules.last.Statement.{statement}
 use Rattle.module.proofs.rules.last.Tie as tie

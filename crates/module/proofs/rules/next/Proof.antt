@@ -1,6 +1,6 @@
 -- `module::next`: the next packet is taken, any other looked at as a repeat.
 use mathlib.Core.Path.{sym, _∙_}
-use Rattle.module.specs.RulesLaws.{next-taken, next-other}
+use Rattle.module_model.specs.RulesLaws.{next-taken, next-other}
 use borrow.Author.Needs.{needs}
 use Rattle.module.proofs.rules.next.Statement.{statement}
 use Rattle.module.proofs.rules.next.Tie as tie

@@ -1,6 +1,6 @@
 -- `module::numbers_in`: three numbers of two bytes each.
 use mathlib.Core.Path.{_∙_}
-use Rattle.module.specs.Rules.{numbersIn}
+use Rattle.module_model.specs.Rules.{numbersIn}
 use borrow.Author.Needs.{needs}
 use Rattle.module.proofs.rules.numbers_in.Statement.{statement}
 use Rattle.module.proofs.rules.numbers_in.Tie as tie

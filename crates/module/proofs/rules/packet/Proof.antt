@@ -2,8 +2,8 @@
 use Prim.Native.Nat.{ℕ}
 use mathlib.Core.Path.{_≡_, sym, ap, ap₂, _∙_}
 use Rattle.octets.specs.Choice.{passed, failed}
-use Rattle.module.specs.Rules.{numbersIn, wellFormed, phaseDecision}
-use Rattle.module.specs.RulesLaws.{formed, packet-formed, packet-unformed}
+use Rattle.module_model.specs.Rules.{numbersIn, wellFormed, phaseDecision}
+use Rattle.module_model.specs.RulesLaws.{formed, packet-formed, packet-unformed}
 use borrow.Author.Needs.{needs}
 use Rattle.module.proofs.rules.packet.Statement.{statement}
 use Rattle.module.proofs.rules.packet.Tie as tie

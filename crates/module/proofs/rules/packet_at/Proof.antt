@@ -1,8 +1,8 @@
 -- `module::packet_at`: each arm is one case of the definition.
 use mathlib.Core.Path.{sym, ap, _∙_}
-use Rattle.module.specs.Rules.{notTaken, phaseDecision}
-use Rattle.module.specs.declared.session.Phase.{Phase}
-use Rattle.module.specs.declared.rules.Decision.{Decision}
+use Rattle.module_model.specs.Rules.{notTaken, phaseDecision}
+use Rattle.module_model.specs.declared.phases.Phase.{Phase}
+use Rattle.module_model.specs.declared.rules.Decision.{Decision}
 use borrow.Author.Needs.{needs}
 use Rattle.module.proofs.rules.packet_at.Statement.{statement}
 use Rattle.module.proofs.rules.packet_at.Tie as tie

@@ -1,8 +1,8 @@
 -- `module::parameters`: the length of the payload decides, then the type.
 use mathlib.Core.Path.{sym, ap, _∙_}
 use Rattle.kinds.specs.Kinds.{kindOf}
-use Rattle.module.specs.Rules.{knownDecision}
-use Rattle.module.specs.RulesLaws.{parameters-ten, parameters-other}
+use Rattle.module_model.specs.Rules.{knownDecision}
+use Rattle.module_model.specs.RulesLaws.{parameters-ten, parameters-other}
 use borrow.Author.Needs.{needs}
 use Rattle.module.proofs.rules.parameters.Statement.{statement}
 use Rattle.module.proofs.rules.parameters.Tie as tie

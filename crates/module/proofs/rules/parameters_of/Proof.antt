@@ -4,10 +4,10 @@ use Rattle.octets.specs.Choice.{passed, failed}
 use Rattle.octets.specs.Octets.{numberAt}
 use Rattle.kinds.specs.Kinds.{tokenOf, fitsFlash}
 use Rattle.commands.specs.Commands.{accepted}
-use Rattle.module.specs.Rules.{unmoved}
-use Rattle.module.specs.RulesLaws.{kind-begins, kind-address, kind-length}
-use Rattle.module.specs.declared.session.Phase.the-variants.{Begun}
-use Rattle.module.specs.declared.rules.Say.the-variants.{Parameters}
+use Rattle.module_model.specs.Rules.{unmoved}
+use Rattle.module_model.specs.RulesLaws.{kind-begins, kind-address, kind-length}
+use Rattle.module_model.specs.declared.phases.Phase.the-variants.{Begun}
+use Rattle.module_model.specs.declared.rules.Say.the-variants.{Parameters}
 use borrow.Author.Needs.{needs}
 use Rattle.module.proofs.rules.parameters_of.Statement.{statement}
 use Rattle.module.proofs.rules.parameters_of.Tie as tie

@@ -1,6 +1,6 @@
 -- `module::phase_at`: the number is compared with Total.
 use mathlib.Core.Path.{sym, _∙_}
-use Rattle.module.specs.RulesLaws.{phase-last, phase-before}
+use Rattle.module_model.specs.RulesLaws.{phase-last, phase-before}
 use borrow.Author.Needs.{needs}
 use Rattle.module.proofs.rules.phase_at.Statement.{statement}
 use Rattle.module.proofs.rules.phase_at.Tie as tie

@@ -1,15 +1,16 @@
 -- `module::place_of`: sum and product stay far below what a number can hold.
 use Prim.Native.Nat.{_*_, _≤_}
 use native.Mathlib.Omega.{arith}
+use Rattle.commands.specs.Commands.{largestPacket, largestTotal}
 use Rattle.pieces.specs.Pieces.{offsetOf}
-use Rattle.module.specs.RulesLaws.{place-small}
+use Rattle.module_model.specs.RulesLaws.{place-small}
 use borrow.Author.Needs.{needs}
 use Rattle.module.proofs.rules.place_of.Statement.{statement}
 use Rattle.module.proofs.rules.place_of.Tie as tie
 
 -- The packets before this one are few and small.
 small : (c : tie.After-struct-known)
-    → offsetOf (c .before .before .before .before .args .pieces .size) (c .before .before .before .before .args .number) ≤ 65535 * 1024
+    → offsetOf (c .before .before .before .before .args .pieces .size) (c .before .before .before .before .args .number) ≤ largestTotal * largestPacket
 small c =
     let start = c .before .before .before .before in
     place-small (start .args .pieces) (start .args .number) (start .pre .0) (start .pre .1) (start .pre .2) .0

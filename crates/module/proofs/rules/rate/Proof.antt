@@ -1,8 +1,8 @@
 -- `module::rate`: the length of the payload decides, then the rate.
 use mathlib.Core.Path.{sym, ap, ap₂, _∙_}
-use Rattle.module.specs.Rules.{unmoved, rateAck}
-use Rattle.module.specs.RulesLaws.{rate-one, rate-other}
-use Rattle.module.specs.declared.rules.Say.the-variants.{Rate}
+use Rattle.module_model.specs.Rules.{unmoved, rateAck}
+use Rattle.module_model.specs.RulesLaws.{rate-one, rate-other}
+use Rattle.module_model.specs.declared.rules.Say.the-variants.{Rate}
 use borrow.Author.Needs.{needs}
 use Rattle.module.proofs.rules.rate.Statement.{statement}
 use Rattle.module.proofs.rules.rate.Tie as tie

@@ -1,6 +1,6 @@
 -- `module::repeat`: what is a repeat is acknowledged.
 use mathlib.Core.Path.{sym, _∙_}
-use Rattle.module.specs.RulesLaws.{repeat-taken, repeat-refused}
+use Rattle.module_model.specs.RulesLaws.{repeat-taken, repeat-refused}
 use borrow.Author.Needs.{needs}
 use Rattle.module.proofs.rules.repeat.Statement.{statement}
 use Rattle.module.proofs.rules.repeat.Tie as tie

@@ -1,6 +1,6 @@
 -- `module::restart`: the length of the payload decides.
 use mathlib.Core.Path.{sym, _∙_}
-use Rattle.module.specs.RulesLaws.{restart-none, restart-other}
+use Rattle.module_model.specs.RulesLaws.{restart-none, restart-other}
 use borrow.Author.Needs.{needs}
 use Rattle.module.proofs.rules.restart.Statement.{statement}
 use Rattle.module.proofs.rules.restart.Tie as tie

@@ -1,7 +1,7 @@
 -- `module::say_of`: each arm is one case of the definition.
 use mathlib.Core.Path.{sym, ap, _∙_}
-use Rattle.module.specs.Rules.{sayOf}
-use Rattle.module.specs.declared.rules.Say.the-variants.{Last}
+use Rattle.module_model.specs.Rules.{sayOf}
+use Rattle.module_model.specs.declared.rules.Say.the-variants.{Last}
 use borrow.Author.Needs.{needs}
 use Rattle.module.proofs.rules.say_of.Statement.{statement}
 use Rattle.module.proofs.rules.say_of.Tie as tie

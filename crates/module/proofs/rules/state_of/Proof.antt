@@ -1,6 +1,6 @@
 -- `module::state_of`: the count written is compared with the length.
 use mathlib.Core.Path.{sym}
-use Rattle.module.specs.RulesLaws.{state-whole, state-other}
+use Rattle.module_model.specs.RulesLaws.{state-whole, state-other}
 use Rattle.module.proofs.rules.state_of.Statement.{statement}
 use Rattle.module.proofs.rules.state_of.Tie as tie
 

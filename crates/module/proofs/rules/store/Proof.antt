@@ -1,7 +1,7 @@
 -- `module::store`: the data stand behind the three numbers.
 use mathlib.Core.Path.{sym, ap, _∙_}
 use Rattle.octets.specs.Octets.{laid}
-use Rattle.module.specs.Rules.{putOf}
+use Rattle.module_model.specs.Rules.{putOf}
 use borrow.Author.Needs.{needs}
 use Rattle.module.proofs.rules.store.Statement.{statement}
 use Rattle.module.proofs.rules.store.Tie as tie

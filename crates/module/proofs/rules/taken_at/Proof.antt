@@ -1,7 +1,7 @@
 -- `module::taken_at`: the phase and the place of the packet, acknowledged.
 use mathlib.Core.Path.{ap₂, _∙_}
-use Rattle.module.specs.Rules.{acknowledged}
-use Rattle.module.specs.declared.rules.Put.the-variants.{At}
+use Rattle.module_model.specs.Rules.{acknowledged}
+use Rattle.module_model.specs.declared.rules.Put.the-variants.{At}
 use borrow.Author.Needs.{needs}
 use Rattle.module.proofs.rules.taken_at.Statement.{statement}
 use Rattle.module.proofs.rules.taken_at.Tie as tie

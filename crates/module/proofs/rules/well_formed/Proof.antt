@@ -1,7 +1,7 @@
 -- `module::well_formed`: each test is one fact of the form.
 use native.Mathlib.Omega.{arith}
 use mathlib.Core.Path.{sym}
-use Rattle.module.specs.RulesLaws.{formed-no, formed-long}
+use Rattle.module_model.specs.RulesLaws.{formed-no, formed-long}
 use borrow.Author.Needs.{needs}
 use Rattle.module.proofs.rules.well_formed.Statement.{statement}
 use Rattle.module.proofs.rules.well_formed.Tie as tie

@@ -1,7 +1,7 @@
 -- `can_open`: 1 to 262,144.
 use native.Mathlib.Omega.{arith}
 use borrow.Author.Tests.{le-leb, lt-leb}
-use Rattle.module.specs.Session.{openable}
+use Rattle.module_model.specs.Phases.{openable}
 use Rattle.module.proofs.session.can_open.Statement.{statement}
 use Rattle.module.proofs.session.can_open.Tie as tie
 

@@ -1,7 +1,7 @@
 -- `is_alive`: a flash that can be opened, then the idle sum.
 use borrow.Author.Needs.{needs}
 use Rattle.octets.specs.Choice.{passed, failed}
-use Rattle.module.specs.Session.{alive}
+use Rattle.module_model.specs.Phases.{alive}
 use Rattle.module.proofs.session.is_alive.Statement.{statement}
 use Rattle.module.proofs.session.is_alive.Tie as tie
 

@@ -3,7 +3,7 @@ use borrow.Author.Needs.{needs}
 use native.Mathlib.Omega.{arith}
 use borrow.Author.Tests.{le-leb, lt-leb}
 use Rattle.commands.specs.Commands.{largestPacket}
-use Rattle.module.specs.Session.{cuts}
+use Rattle.module_model.specs.Phases.{cuts}
 use Rattle.module.proofs.session.is_cut.Statement.{statement}
 use Rattle.module.proofs.session.is_cut.Tie as tie
 

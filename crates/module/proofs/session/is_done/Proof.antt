@@ -3,7 +3,7 @@ use borrow.Author.Needs.{needs}
 use mathlib.Core.Bool.{true}
 use mathlib.Core.Path.{_≡_}
 use Rattle.octets.specs.Choice.{passed, failed}
-use Rattle.module.specs.Session.{fits, cuts, doneArises}
+use Rattle.module_model.specs.Phases.{fits, cuts, doneArises}
 use Rattle.module.proofs.session.is_done.Statement.{statement}
 use Rattle.module.proofs.session.is_done.Tie as tie
 

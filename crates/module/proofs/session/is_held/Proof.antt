@@ -1,7 +1,7 @@
 -- `is_held`: each phase by its own test.
 use borrow.Author.Needs.{needs}
 use mathlib.Core.Path.{sym, ap, _∙_}
-use Rattle.module.specs.Session.{held}
+use Rattle.module_model.specs.Phases.{held}
 use Rattle.module.proofs.session.is_held.Statement.{statement}
 use Rattle.module.proofs.session.is_held.Tie as tie
 

@@ -7,8 +7,9 @@ use native.Mathlib.Omega.{arith}
 use native.Mathlib.Nat.{mul-le-mul}
 use borrow.Author.Tests.{le-leb, lt-leb, lt-ltb, le-ltb}
 use Rattle.octets.specs.Choice.{passed, failed}
-use Rattle.module.specs.Session.{totalOf, fits, cuts, loadingArises}
-use Rattle.module.specs.SessionLaws.{cuts-facts}
+use Rattle.commands.specs.Commands.{largestPacket, largestTotal}
+use Rattle.module_model.specs.Phases.{totalOf, fits, cuts, loadingArises}
+use Rattle.module_model.specs.PhasesLaws.{cuts-facts}
 use Rattle.module.proofs.session.is_loading.Statement.{statement}
 use Rattle.module.proofs.session.is_loading.Tie as tie
 
@@ -58,8 +59,8 @@ mul-result : tie.Need-mul-result
 mul-result c =
     let a = c .before .before .before .before .before .before .before .before .before .args in
     let facts = cuts-facts (a .pieces) (cut (c .before .before .before .before)) in
-    let number : a .number ≤ 65535 = omega (arith, c .before .before .count .ensures, facts .carried) in
-    let product : a .number * a .pieces .size ≤ 65535 * 1024 = mul-le-mul number (facts .small) in
+    let number : a .number ≤ largestTotal = omega (arith, c .before .before .count .ensures, facts .carried) in
+    let product : a .number * a .pieces .size ≤ largestTotal * largestPacket = mul-le-mul number (facts .small) in
     omega (arith, product)
 
 returns-5 : tie.Need-returns-5

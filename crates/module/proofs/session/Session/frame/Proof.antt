@@ -1,6 +1,7 @@
 -- `Session::frame`: decided, stored, sent.
 use borrow.Author.Needs.{needs}
-use Rattle.module.specs.SessionLaws.{takes-facts, held-bounded}
+use Rattle.module.specs.SessionLaws.{takes-facts}
+use Rattle.module_model.specs.PhasesLaws.{held-bounded}
 use Rattle.module.specs.StepLaws.{frame-done}
 use Rattle.module.proofs.session.Session.frame.Statement.{statement}
 use Rattle.module.proofs.session.Session.frame.Tie as tie

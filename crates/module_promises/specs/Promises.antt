@@ -5,27 +5,41 @@ use mathlib.Core.List.{List, [], _∷_, _++_, List·Memᴰ}
 use mathlib.Core.Path.{_≡_}
 use lib.ListN.{length, getD, take}
 use Rattle.octets.specs.Octets.{Bytes, numberAt, laid}
-use Rattle.kinds.specs.Kinds.{kindOf, baseOf, longestImage}
+use Rattle.kinds.specs.Kinds.{kindOf, baseOf}
+use Rattle.kinds.specs.KindsLaws.{FitsFlash}
 use Rattle.kinds.specs.declared.Kind.{Kind}
 use Rattle.kinds.specs.declared.Known.{Known}
 use Rattle.kinds.specs.declared.Known.the-variants.{Is, Unknown}
 use Rattle.pieces.specs.Pieces.{countOf}
-use Rattle.commands.specs.Commands.{parametersFor, packetFor}
-use Rattle.commands.specs.Commands.{largestPacket, largestTotal, parametersCommand, packetCommand, restartCommand, accepted, parametersReply, packetReply, restartReply, notice}
-use Rattle.module.specs.Session.{session, stepped, openingOf, takes, isClosed, arises}
-use Rattle.module.specs.Rules.{dataIn}
+use Rattle.commands.specs.Commands.{parametersFor, packetFor, largestPacket, largestTotal, parametersCommand, packetCommand}
+use Rattle.commands.specs.Commands.{restartCommand, accepted, parametersReply, packetReply, restartReply, notice}
+use Rattle.module_model.specs.Phases.{longestIdle, closingIdle, isClosed}
+use Rattle.module_model.specs.Rules.{dataIn, typeField, lengthField}
+use Rattle.module_model.specs.Answers.{isRefused}
+use Rattle.module.specs.Session.{session, stepped, openingOf, takes, arises}
 use Rattle.module.specs.Step.{left, smallestReply, stepOf}
-use Rattle.module.specs.Runs.{Given, Exchange, exchange, nextOf, afterOf, runOf, AllBytes, isRefused, Says, payloadOf}
-use Rattle.module.specs.Runs.{Offer, carried}
-use Rattle.module.specs.declared.session.Phase.the-variants.{Closed}
+use Rattle.module_promises.specs.Runs.{Given, Exchange, exchange, nextOf, afterOf, runOf, AllBytes, Says, payloadOf, Offer}
+use Rattle.module_promises.specs.Runs.{carried}
+use Rattle.module_model.specs.declared.phases.Phase.the-variants.{Closed}
+use Rattle.module_model.specs.declared.events.Event.{Event}
+use Rattle.module_model.specs.declared.events.Event.the-variants.{Frame, Elapsed}
+use Rattle.module_model.specs.declared.events.Answer.the-variants.{Nothing, Refused}
 use Rattle.module.specs.declared.session.Session.{Session}
-use Rattle.module.specs.declared.session.Event.{Event}
-use Rattle.module.specs.declared.session.Event.the-variants.{Frame, Elapsed}
-use Rattle.module.specs.declared.session.Answer.the-variants.{Nothing, Refused}
 
--- The session that an opening gives.
+-- The session that an opening over a flash gives.
 abbrev pub opened : List ℕ → Session
 opened flash = openingOf flash .session
+
+-- How a session was opened: on the line, over a flash. Promises over runs hold for every way.
+pub data Opening : Type 0 where
+  online : List ℕ → Opening
+
+abbrev pub openedBy : Opening → Session
+openedBy (online flash) = opened flash
+
+-- The flash that it was opened over is bytes.
+abbrev pub OpeningBytes : Opening → Type 0
+OpeningBytes (online flash) = Bytes flash
 
 -- ---- M1, success
 
@@ -66,15 +80,15 @@ pub record Success (s : Session) (history : List Exchange) (x : Exchange) : Type
   pub open-session : takes s ≡ true
   pub not-refused : isRefused (x .left .answer) ≡ false
 
--- M1 (Success.antt). Over any run from an opening, with any flash and any reply buffer lent at each step, the notice of State 0 is
+-- M1 (Success.antt). Over any run from any opening, with any flash and any reply buffer lent at each step, the notice of State 0 is
 -- in a reply exactly when the event is the last packet or its repeat and each of 1 to Total has been acknowledged since the last
 -- accepted parameters. Acceptance is read off replies.
 abbrev pub SuccessExactly : Type 0
 SuccessExactly =
-    (flash : List ℕ) (gs : List Given) (g : Given) → AllBytes gs → Bytes (g .payload)
-    → let s = afterOf (opened flash) gs in
+    (o : Opening) (gs : List Given) (g : Given) → AllBytes gs → Bytes (g .payload)
+    → let s = afterOf (openedBy o) gs in
     let x = exchange s g in
-    let history = runOf (opened flash) gs ++ (x ∷ []) in
+    let history = runOf (openedBy o) gs ++ (x ∷ []) in
     (Says x (notice 0) → Success s history x)
     × ((total : ℕ) → LastPacket x total → AllAccepted history total → Says x (notice 0))
 
@@ -95,10 +109,10 @@ baseBy (Is kind) = baseOf kind
 baseBy Unknown = 0
 
 abbrev pub baseIn : Exchange → ℕ
-baseIn parameters = baseBy (kindOf (numberAt 2 (payloadOf (parameters .given)) 0))
+baseIn parameters = baseBy (kindOf (typeField (payloadOf (parameters .given))))
 
 abbrev pub lengthIn : Exchange → ℕ
-lengthIn parameters = numberAt 4 (payloadOf (parameters .given)) 2
+lengthIn parameters = lengthField (payloadOf (parameters .given))
 
 -- Pieces one behind the other.
 abbrev pub joined : List (List ℕ) → List ℕ
@@ -132,9 +146,9 @@ pub record FlashAtSuccess (history : List Exchange) (x : Exchange) : Type 0 wher
 -- to Total in order, and every other byte is what it was.
 abbrev pub SuccessHolds : Type 0
 SuccessHolds =
-    (flash : List ℕ) (gs : List Given) (g : Given) → AllBytes gs → Bytes (g .payload)
-    → let x = exchange (afterOf (opened flash) gs) g in
-    Says x (notice 0) → FlashAtSuccess (runOf (opened flash) gs ++ (x ∷ [])) x
+    (o : Opening) (gs : List Given) (g : Given) → AllBytes gs → Bytes (g .payload)
+    → let x = exchange (afterOf (openedBy o) gs) g in
+    Says x (notice 0) → FlashAtSuccess (runOf (openedBy o) gs ++ (x ∷ [])) x
 
 -- A place lies in the range of the last accepted parameters.
 pub record InRange (history : List Exchange) (i : ℕ) : Type 0 where
@@ -148,16 +162,16 @@ pub record InRange (history : List Exchange) (i : ℕ) : Type 0 where
 -- transfer under way.
 abbrev pub OnlyInRange : Type 0
 OnlyInRange =
-    (flash : List ℕ) (gs : List Given) (g : Given) → AllBytes gs → Bytes (g .payload)
-    → let x = exchange (afterOf (opened flash) gs) g in
+    (o : Opening) (gs : List Given) (g : Given) → AllBytes gs → Bytes (g .payload)
+    → let x = exchange (afterOf (openedBy o) gs) g in
     (length (x .left .flash) ≡ length (g .flash))
-    × ((i : ℕ) → (getD (x .left .flash) i 0 ≡ getD (g .flash) i 0 → ⊥) → InRange (runOf (opened flash) gs) i)
+    × ((i : ℕ) → (getD (x .left .flash) i 0 ≡ getD (g .flash) i 0 → ⊥) → InRange (runOf (openedBy o) gs) i)
 
 -- ---- M3, the clean transfer
 
 -- Time events whose milliseconds, counted on from a sum, come to at most 7,000. Their payloads and reply buffers are any.
 abbrev pub Pause : ℕ → List Offer → Type 0
-Pause sum [] = sum ≤ 7000
+Pause sum [] = sum ≤ longestIdle
 Pause sum (o ∷ os) = (ms : ℕ) × (o .event ≡ Elapsed ms) × Pause (sum + ms) os
 
 -- A frame is offered with a reply buffer of at least 64 bytes; its payload is the front of the lent slice.
@@ -192,12 +206,9 @@ pub record CleanTransfer (idle : ℕ) (kind : Kind) (image : List ℕ) (size : �
   pub declares : Frames parametersCommand (parametersFor kind (length image)) parameters
   pub sends : PacketsFrom image size (countOf (length image) size) 1 packets
 
--- The transfer fits: an image of 1 to 262,143 bytes that lies within the flash from its base on, in pieces of 1 to 1,024 bytes, at
--- most 65,535 of them.
+-- The transfer fits: the image fits the flash as the rule of its type has it, in pieces of 1 to 1,024 bytes, at most 65,535 of them.
 pub record Fits (kind : Kind) (image : List ℕ) (size : ℕ) (flash : List ℕ) : Type 0 where
-  pub some : 1 ≤ length image
-  pub short : length image ≤ longestImage
-  pub inside : baseOf kind + length image ≤ length flash
+  pub fitting : FitsFlash kind (length image) (length flash)
   pub size-some : 1 ≤ size
   pub size-most : size ≤ largestPacket
   pub total-most : countOf (length image) size ≤ largestTotal
@@ -223,17 +234,17 @@ CleanSucceeds =
 
 -- What closes an open session: a sum over 7,000, or an accepted 0x06.
 pub data Closes (s : Session) (g : Given) : Type 0 where
-  idle : (ms : ℕ) → g .event ≡ Elapsed ms → 7000 < s .idle + ms → Closes s g
+  idle : (ms : ℕ) → g .event ≡ Elapsed ms → longestIdle < s .idle + ms → Closes s g
   restart : (count : ℕ) → g .event ≡ Frame restartCommand count → Says (exchange s g) (restartReply accepted) → Closes s g
 
 -- M4 (Idle.antt). In an open session, over the flash of the opening and with room for a reply:
 pub record Idle (s : Session) : Type 0 where
   -- a sum of up to 7,000 is kept and nothing else moves,
-  pub stays : (ms : ℕ) (payload flash reply : List ℕ) → smallestReply ≤ length reply → length flash ≡ s .flash → s .idle + ms ≤ 7000
+  pub stays : (ms : ℕ) (payload flash reply : List ℕ) → smallestReply ≤ length reply → length flash ≡ s .flash → s .idle + ms ≤ longestIdle
       → stepOf s (Elapsed ms) payload flash reply ≡ left (stepped (session (s .flash) (s .idle + ms) (s .phase)) Nothing) flash reply
   -- a sum over it closes, and stops at 7,001,
-  pub closes : (ms : ℕ) (payload flash reply : List ℕ) → smallestReply ≤ length reply → length flash ≡ s .flash → 7000 < s .idle + ms
-      → stepOf s (Elapsed ms) payload flash reply ≡ left (stepped (session (s .flash) 7001 Closed) Nothing) flash reply
+  pub closes : (ms : ℕ) (payload flash reply : List ℕ) → smallestReply ≤ length reply → length flash ≡ s .flash → longestIdle < s .idle + ms
+      → stepOf s (Elapsed ms) payload flash reply ≡ left (stepped (session (s .flash) closingIdle Closed) Nothing) flash reply
   -- a frame that is not refused sets the sum to 0,
   pub restarts : (g : Given) (command count : ℕ) → g .event ≡ Frame command count → isRefused (exchange s g .left .answer) ≡ false
       → nextOf s g .idle ≡ 0
@@ -259,7 +270,7 @@ ClosedLeaves =
 
 -- M5 (Arises.antt). Every session that an opening and any run of steps leads to passes the test.
 abbrev pub ReachedArises : Type 0
-ReachedArises = (flash : List ℕ) (gs : List Given) → AllBytes gs → arises (afterOf (opened flash) gs) ≡ true
+ReachedArises = (o : Opening) (gs : List Given) → AllBytes gs → arises (afterOf (openedBy o) gs) ≡ true
 
 -- What the types of the calls let through: bytes, a command byte, milliseconds of 32 bits.
 abbrev pub RealEvent : Event → Type 0
@@ -278,11 +289,11 @@ AllReal (g ∷ gs) = Real g × AllReal gs
 
 -- An opening and a run of steps that lead to a session.
 pub record Reached (s : Session) : Type 0 where
-  pub flash : List ℕ
-  pub flash-bytes : Bytes flash
+  pub opening : Opening
+  pub opening-bytes : OpeningBytes opening
   pub steps : List Given
   pub real : AllReal steps
-  pub leads : afterOf (opened flash) steps ≡ s
+  pub leads : afterOf (openedBy opening) steps ≡ s
 
 -- M5, the other way (Reach.antt). Every session that passes the test is reached by some opening and some run.
 abbrev pub ArisesReached : Type 0

@@ -11,20 +11,21 @@ use Rattle.octets.specs.Octets.{Bytes, numberAt, laid}
 use Rattle.octets.specs.OctetsLaws.{laid-length, laid-before, laid-behind}
 use Rattle.kinds.specs.Kinds.{baseOf}
 use Rattle.pieces.specs.PiecesLaws.{ends-with}
-use Rattle.module.specs.Session.{totalOf}
-use Rattle.module.specs.SessionLaws.{cut-length}
-use Rattle.module.specs.Rules.{dataIn, placeOf}
-use Rattle.module.specs.Runs.{Given, Exchange, exchange, afterOf, runOf, isRefused, payloadOf}
-use Rattle.module.specs.Outcomes.{Belongs, Expects, first, later}
-use Rattle.module.specs.Said.{Declares, Turn, quiet, declares, writes, again, turn-of}
-use Rattle.module.specs.Track.{keptAfter, kept-same, Track, Pieced, Tracked, last-ends, piece-within, reached-tracked}
-use Rattle.module.specs.Success.{notice-ends, run-pieced}
-use Rattle.module.specs.Promises.{opened, keptBy, NobodyElse, baseBy, baseIn, joined}
-use Rattle.module.specs.Promises.{HoldsImage, SuccessHolds, InRange, OnlyInRange}
-use Rattle.module.specs.declared.session.Transfer.{Transfer}
-use Rattle.module.specs.declared.session.Pieces.{Pieces}
-use Rattle.module.specs.declared.session.Phase.{Phase}
+use Rattle.module_model.specs.Phases.{totalOf}
+use Rattle.module_model.specs.PhasesLaws.{cut-length}
+use Rattle.module_model.specs.Rules.{dataIn, placeOf}
+use Rattle.module_model.specs.Outcomes.{Belongs, Expects, first, later}
+use Rattle.module_model.specs.Answers.{isRefused}
+use Rattle.module_promises.specs.Runs.{Given, Exchange, exchange, afterOf, runOf, payloadOf}
+use Rattle.module_promises.specs.Said.{Declares, Turn, quiet, declares, writes, again, turn-of}
+use Rattle.module_promises.specs.Track.{keptAfter, kept-same, Track, Pieced, Tracked, last-ends, piece-within, reached-tracked}
+use Rattle.module_promises.specs.Success.{notice-ends, run-pieced}
+use Rattle.module_promises.specs.Promises.{openedBy, keptBy, NobodyElse, baseBy, baseIn, joined, HoldsImage, SuccessHolds}
+use Rattle.module_promises.specs.Promises.{InRange, OnlyInRange}
+use Rattle.module_model.specs.declared.phases.Transfer.{Transfer}
+use Rattle.module_model.specs.declared.phases.Pieces.{Pieces}
+use Rattle.module_model.specs.declared.phases.Phase.{Phase}
 use Rattle.module.specs.declared.session.Session.{Session}
 
 -- ---- the last exchange
 
@@ -82,16 +83,16 @@ holds-image before x p payload flash h taken k nobody =
     }
 
 pub success-holds : SuccessHolds
-success-holds flash gs g all bytes says =
-    let s = afterOf (opened flash) gs in
+success-holds o gs g all bytes says =
+    let s = afterOf (openedBy o) gs in
     let e = notice-ends s g bytes says in
-    let h = run-pieced flash gs g all bytes e in
+    let h = run-pieced o gs g all bytes e in
     record {
       parameters = h .track .parameters;
       since = h .track .since;
       last = h .track .last;
       holds =
-          holds-image (runOf (opened flash) gs) (exchange s g) (e .p) (payloadOf g) (length (g .flash)) h (e .packet .not-refused)
+          holds-image (runOf (openedBy o) gs) (exchange s g) (e .p) (payloadOf g) (length (g .flash)) h (e .packet .not-refused)
           (e .packet .belongs);
     }
 
@@ -158,5 +159,5 @@ step-range history s g bytes h = go (turn-of s g bytes)
         )
 
 pub only-in-range : OnlyInRange
-only-in-range flash gs g all bytes =
-    step-range (runOf (opened flash) gs) (afterOf (opened flash) gs) g bytes (reached-tracked flash gs all)
+only-in-range o gs g all bytes =
+    step-range (runOf (openedBy o) gs) (afterOf (openedBy o) gs) g bytes (reached-tracked o gs all)

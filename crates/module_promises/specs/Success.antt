@@ -4,13 +4,13 @@ use mathlib.Core.List.{List, [], _∷_, _++_}
 use mathlib.Core.Path.{sym, _∙_}
 use Rattle.octets.specs.Octets.{Bytes}
 use Rattle.commands.specs.Commands.{notice}
-use Rattle.module.specs.Session.{totalOf}
-use Rattle.module.specs.Runs.{Given, exchange, nextOf, afterOf, runOf, AllBytes, Says}
-use Rattle.module.specs.Said.{Acknowledges, Turn, quiet, declares, writes, again, turn-of}
-use Rattle.module.specs.Track.{Pieced, accepted-pieced, tracked-more, reached-tracked}
-use Rattle.module.specs.Promises.{opened, LastPacket, Success, SuccessExactly}
-use Rattle.module.specs.declared.session.Pieces.{Pieces}
+use Rattle.module_model.specs.Phases.{totalOf}
+use Rattle.module_promises.specs.Runs.{Given, exchange, nextOf, afterOf, runOf, AllBytes, Says}
+use Rattle.module_promises.specs.Said.{Acknowledges, Turn, quiet, declares, writes, again, turn-of}
+use Rattle.module_promises.specs.Track.{Pieced, accepted-pieced, tracked-more, reached-tracked}
+use Rattle.module_promises.specs.Promises.{Opening, openedBy, LastPacket, Success, SuccessExactly}
+use Rattle.module_model.specs.declared.phases.Pieces.{Pieces}
 use Rattle.module.specs.declared.session.Session.{Session}
 
 -- A step that acknowledges the last packet of a transfer.
 pub record Ends (s : Session) (g : Given) : Type 0 where
@@ -47,26 +47,26 @@ last-notices s g bytes total last = go (turn-of s g bytes)
     go (again p number a behind same put) = notices p number a
 
 -- At the end of a run from an opening, such a step leaves a history that has accepted all packets.
-pub run-pieced : (flash : List ℕ) (gs : List Given) (g : Given) → AllBytes gs → Bytes (g .payload)
-    → (e : Ends (afterOf (opened flash) gs) g)
-    → Pieced (runOf (opened flash) gs ++ (exchange (afterOf (opened flash) gs) g ∷ [])) (e .p) (totalOf (e .p))
-run-pieced flash gs g all bytes e =
-    let s = afterOf (opened flash) gs in
-    let history = runOf (opened flash) gs in
+pub run-pieced : (o : Opening) (gs : List Given) (g : Given) → AllBytes gs → Bytes (g .payload)
+    → (e : Ends (afterOf (openedBy o) gs) g)
+    → Pieced (runOf (openedBy o) gs ++ (exchange (afterOf (openedBy o) gs) g ∷ [])) (e .p) (totalOf (e .p))
+run-pieced o gs g all bytes e =
+    let s = afterOf (openedBy o) gs in
+    let history = runOf (openedBy o) gs in
     accepted-pieced (history ++ (exchange s g ∷ [])) (nextOf s g .phase) (e .p) (totalOf (e .p)) (e .packet .after)
-    (tracked-more history s g bytes (reached-tracked flash gs all))
+    (tracked-more history s g bytes (reached-tracked o gs all))
 
 pub success-exactly : SuccessExactly
-success-exactly flash gs g all bytes = (only, λ total last accepted. last-notices s g bytes total last)
+success-exactly o gs g all bytes = (only, λ total last accepted. last-notices s g bytes total last)
   where
     s : Session
-    s = afterOf (opened flash) gs
+    s = afterOf (openedBy o) gs
 
-    only : Says (exchange s g) (notice 0) → Success s (runOf (opened flash) gs ++ (exchange s g ∷ [])) (exchange s g)
+    only : Says (exchange s g) (notice 0) → Success s (runOf (openedBy o) gs ++ (exchange s g ∷ [])) (exchange s g)
     only says =
         let e = notice-ends s g bytes says in
         let a = e .packet in
-        let h = run-pieced flash gs g all bytes e .track in
+        let h = run-pieced o gs g all bytes e .track in
         record {
           total = totalOf (e .p);
           last = record {

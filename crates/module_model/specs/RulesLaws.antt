@@ -10,40 +10,28 @@ use borrow.Author.Tests.{le-leb, leb-true, eq-eqb, ne-eqb, eqb-true}
 use lib.Dec.{eqb, leb}
 use lib.ListN.{length, getD}
 use Rattle.octets.specs.Choice.{cond-yes, cond-no, both}
-use Rattle.octets.specs.Octets.{numberAt, partOf, sameBytes}
+use Rattle.octets.specs.Octets.{partOf, sameBytes}
 use Rattle.octets.specs.OctetsLaws.{same-refl, same-true}
 use Rattle.kinds.specs.Kinds.{kindOf, tokenOf, fitsFlash}
 use Rattle.kinds.specs.KindsLaws.{base-short}
 use Rattle.kinds.specs.declared.Kind.{Kind}
 use Rattle.pieces.specs.Pieces.{countOf, sizeAt, offsetOf}
 use Rattle.pieces.specs.PiecesLaws.{count-many, count-some, count-one, count-whole}
-use Rattle.commands.specs.Commands.{largestPacket, accepted, wrongFirst, wrongSecond, notUnderstood, rateCommand, parametersCommand, packetCommand, restartCommand}
-use Rattle.module.specs.Session.{totalOf}
-use Rattle.module.specs.Rules.{unmoved, rateAck, rateDecision, kindDecision, knownDecision, parametersDecision, restartDecision}
-use Rattle.module.specs.Rules.{numbersIn, wellFormed, dataIn, notTaken, cutsInto, placeOf, isPacket, isRepeat, phaseAt, stateOf}
-use Rattle.module.specs.Rules.{acknowledged, taken, repeatDecision, firstDecision, loadingDecision, doneDecision}
-use Rattle.module.specs.Rules.{phaseDecision, packetDecision, decideOf}
-use Rattle.module.specs.declared.session.Transfer.{Transfer}
-use Rattle.module.specs.declared.session.Pieces.{Pieces}
-use Rattle.module.specs.declared.session.Phase.{Phase}
-use Rattle.module.specs.declared.session.Phase.the-variants.{Closed, Ready, Begun, Loading, Done}
-use Rattle.module.specs.declared.rules.Say.the-variants.{Nothing, Rate, Parameters, Restart}
-use Rattle.module.specs.declared.rules.Put.the-variants.{Nowhere}
-use Rattle.module.specs.declared.rules.Numbers.{Numbers}
-
--- The numbers of a transfer that could arise are small, so that no sum or product of the rules is too large.
-pub record Bounded (p : Pieces) (number written : ℕ) : Type 0 where
-  pub one : 1 ≤ number
-  pub most : number ≤ 65535
-  pub small : p .size ≤ 1024
-  pub short : written ≤ 262143
-
-abbrev pub BoundedPhase : Phase → Type 0
-BoundedPhase Closed = Unit
-BoundedPhase Ready = Unit
-BoundedPhase (Begun t) = Unit
-BoundedPhase (Loading p number written) = Bounded p number written
-BoundedPhase (Done p written) = Bounded p (totalOf p) written
+use Rattle.commands.specs.Commands.{largestPacket, accepted, wrongFirst, wrongSecond, notUnderstood, rateCommand, parametersCommand}
+use Rattle.commands.specs.Commands.{largestTotal, packetCommand, restartCommand}
+use Rattle.module_model.specs.Phases.{totalOf}
+use Rattle.module_model.specs.Rules.{packetHead, parametersLength, typeField, lengthField, addressField, stateWhole, stateShort}
+use Rattle.module_model.specs.Rules.{unmoved, rateAck, rateDecision, kindDecision, knownDecision, parametersDecision}
+use Rattle.module_model.specs.Rules.{restartDecision, numbersIn, wellFormed, dataIn, notTaken, cutsInto, placeOf, isPacket}
+use Rattle.module_model.specs.Rules.{isRepeat, phaseAt, stateOf, acknowledged, taken, repeatDecision, firstDecision}
+use Rattle.module_model.specs.Rules.{loadingDecision, doneDecision, phaseDecision, packetDecision, decideOf}
+use Rattle.module_model.specs.declared.phases.Transfer.{Transfer}
+use Rattle.module_model.specs.declared.phases.Pieces.{Pieces}
+use Rattle.module_model.specs.declared.phases.Phase.{Phase}
+use Rattle.module_model.specs.declared.phases.Phase.the-variants.{Closed, Begun, Loading, Done}
+use Rattle.module_model.specs.declared.rules.Say.the-variants.{Nothing, Rate, Parameters, Restart}
+use Rattle.module_model.specs.declared.rules.Put.the-variants.{Nowhere}
+use Rattle.module_model.specs.declared.rules.Numbers.{Numbers}
 
 -- ---- 0x01
 
@@ -78,35 +66,35 @@ rate-other phase payload h = cond-no _ _ _ (ne-eqb (length payload) 1 h)
 -- ---- 0x02
 
 -- A known type with its token and a length that fits begins a transfer.
-pub kind-begins : (phase : Phase) (kind : Kind) (payload : List ℕ) (flash : ℕ) → numberAt 4 payload 6 ≡ tokenOf kind
-    → fitsFlash kind (numberAt 4 payload 2) flash ≡ true
+pub kind-begins : (phase : Phase) (kind : Kind) (payload : List ℕ) (flash : ℕ) → addressField payload ≡ tokenOf kind
+    → fitsFlash kind (lengthField payload) flash ≡ true
     → kindDecision phase kind payload flash
-    ≡ unmoved (Begun (record { kind = kind; length = numberAt 4 payload 2 })) (Parameters accepted)
+    ≡ unmoved (Begun (record { kind = kind; length = lengthField payload })) (Parameters accepted)
 unfolding kindDecision
-kind-begins phase kind payload flash h k = cond-yes _ _ _ (eq-eqb (numberAt 4 payload 6) (tokenOf kind) h) ∙ cond-yes _ _ _ k
+kind-begins phase kind payload flash h k = cond-yes _ _ _ (eq-eqb (addressField payload) (tokenOf kind) h) ∙ cond-yes _ _ _ k
 
 -- With another address it is not understood, with a length that does not fit refused.
-pub kind-address : (phase : Phase) (kind : Kind) (payload : List ℕ) (flash : ℕ) → (numberAt 4 payload 6 ≡ tokenOf kind → ⊥)
+pub kind-address : (phase : Phase) (kind : Kind) (payload : List ℕ) (flash : ℕ) → (addressField payload ≡ tokenOf kind → ⊥)
     → kindDecision phase kind payload flash ≡ unmoved phase (Parameters notUnderstood)
 unfolding kindDecision
-kind-address phase kind payload flash h = cond-no _ _ _ (ne-eqb (numberAt 4 payload 6) (tokenOf kind) h)
+kind-address phase kind payload flash h = cond-no _ _ _ (ne-eqb (addressField payload) (tokenOf kind) h)
 
-pub kind-length : (phase : Phase) (kind : Kind) (payload : List ℕ) (flash : ℕ) → numberAt 4 payload 6 ≡ tokenOf kind
-    → fitsFlash kind (numberAt 4 payload 2) flash ≡ false
+pub kind-length : (phase : Phase) (kind : Kind) (payload : List ℕ) (flash : ℕ) → addressField payload ≡ tokenOf kind
+    → fitsFlash kind (lengthField payload) flash ≡ false
     → kindDecision phase kind payload flash ≡ unmoved phase (Parameters wrongSecond)
 unfolding kindDecision
-kind-length phase kind payload flash h k = cond-yes _ _ _ (eq-eqb (numberAt 4 payload 6) (tokenOf kind) h) ∙ cond-no _ _ _ k
+kind-length phase kind payload flash h k = cond-yes _ _ _ (eq-eqb (addressField payload) (tokenOf kind) h) ∙ cond-no _ _ _ k
 
 -- A payload of ten bytes is decided by its type, any other is not understood.
-pub parameters-ten : (phase : Phase) (payload : List ℕ) (flash : ℕ) → length payload ≡ 10
-    → parametersDecision phase payload flash ≡ knownDecision phase (kindOf (numberAt 2 payload 0)) payload flash
+pub parameters-ten : (phase : Phase) (payload : List ℕ) (flash : ℕ) → length payload ≡ parametersLength
+    → parametersDecision phase payload flash ≡ knownDecision phase (kindOf (typeField payload)) payload flash
 unfolding parametersDecision
-parameters-ten phase payload flash h = cond-yes _ _ _ (eq-eqb (length payload) 10 h)
+parameters-ten phase payload flash h = cond-yes _ _ _ (eq-eqb (length payload) parametersLength h)
 
-pub parameters-other : (phase : Phase) (payload : List ℕ) (flash : ℕ) → (length payload ≡ 10 → ⊥)
+pub parameters-other : (phase : Phase) (payload : List ℕ) (flash : ℕ) → (length payload ≡ parametersLength → ⊥)
     → parametersDecision phase payload flash ≡ unmoved phase (Parameters notUnderstood)
 unfolding parametersDecision
-parameters-other phase payload flash h = cond-no _ _ _ (ne-eqb (length payload) 10 h)
+parameters-other phase payload flash h = cond-no _ _ _ (ne-eqb (length payload) parametersLength h)
 
 -- ---- 0x06
 
@@ -127,7 +115,7 @@ restart-other phase payload h = cond-no _ _ _ (ne-eqb (length payload) 0 h)
 pub record FormOf (n size : ℕ) : Type 0 where
   pub some : 1 ≤ size
   pub most : size ≤ largestPacket
-  pub long : n ≡ 6 + size
+  pub long : n ≡ packetHead + size
 
 -- The test says just these three facts.
 pub formed : (n size : ℕ) → wellFormed n size ≡ true → FormOf n size
@@ -135,17 +123,17 @@ unfolding wellFormed
 formed n size h =
     let first = both (leb 1 size) _ h in
     let rest = both (leb size largestPacket) _ (first .1) in
-    record { some = leb-true 1 size (first .0); most = leb-true size largestPacket (rest .0); long = eqb-true n (6 + size) (rest .1) }
+    record { some = leb-true 1 size (first .0); most = leb-true size largestPacket (rest .0); long = eqb-true n (packetHead + size) (rest .1) }
 
 pub formed-yes : (n size : ℕ) → FormOf n size → wellFormed n size ≡ true
 unfolding wellFormed
-formed-yes n size f = rw (le-leb 1 size (f .some), le-leb size largestPacket (f .most), eq-eqb n (6 + size) (f .long))
+formed-yes n size f = rw (le-leb 1 size (f .some), le-leb size largestPacket (f .most), eq-eqb n (packetHead + size) (f .long))
 
 pub formed-no : (n size : ℕ) → (FormOf n size → ⊥) → wellFormed n size ≡ false
 formed-no n size h = not-eq-not .0 (λ e. h (formed n size e))
 
 -- Of a size that a packet can have the length decides.
-pub formed-long : (n size : ℕ) → 1 ≤ size → size ≤ largestPacket → wellFormed n size ≡ eqb n (6 + size)
+pub formed-long : (n size : ℕ) → 1 ≤ size → size ≤ largestPacket → wellFormed n size ≡ eqb n (packetHead + size)
 unfolding wellFormed
 formed-long n size h k = rw (le-leb 1 size h, le-leb size largestPacket k)
 
@@ -274,20 +262,20 @@ unfolding phaseAt
 phase-before p number written h = cond-no _ _ _ (ne-eqb number (totalOf p) h)
 
 -- The State is 0 where all of the length is written, else 1.
-pub state-whole : (p : Pieces) (written : ℕ) → written ≡ p .transfer .length → stateOf p written ≡ 0x00
+pub state-whole : (p : Pieces) (written : ℕ) → written ≡ p .transfer .length → stateOf p written ≡ stateWhole
 unfolding stateOf
 state-whole p written h = rw (eq-eqb written (p .transfer .length) h)
 
-pub state-other : (p : Pieces) (written : ℕ) → (written ≡ p .transfer .length → ⊥) → stateOf p written ≡ 0x01
+pub state-other : (p : Pieces) (written : ℕ) → (written ≡ p .transfer .length → ⊥) → stateOf p written ≡ stateShort
 unfolding stateOf
 state-other p written h = rw (ne-eqb written (p .transfer .length) h)
 
 -- A packet's place is far below what a number can hold.
-pub place-small : (p : Pieces) (number : ℕ) → 1 ≤ number → number ≤ 65536 → p .size ≤ 1024
-    → (offsetOf (p .size) number ≤ 65535 * 1024) × (placeOf p number ≤ 0x3E000 + 65535 * 1024)
+pub place-small : (p : Pieces) (number : ℕ) → 1 ≤ number → number ≤ largestTotal + 1 → p .size ≤ largestPacket
+    → (offsetOf (p .size) number ≤ largestTotal * largestPacket) × (placeOf p number ≤ 0x3E000 + largestTotal * largestPacket)
 place-small p number one most small =
-    let less : number - 1 ≤ 65535 = omega (arith, one, most) in
-    let product : offsetOf (p .size) number ≤ 65535 * 1024 = mul-le-mul less small in
+    let less : number - 1 ≤ largestTotal = omega (arith, one, most) in
+    let product : offsetOf (p .size) number ≤ largestTotal * largestPacket = mul-le-mul less small in
     (product, omega (arith, product, base-short (p .transfer .kind)))
 
 -- A repeat is acknowledged and nothing put, any other packet refused.

@@ -18,24 +18,26 @@ use Rattle.kinds.specs.Kinds.{numberOf, tokenOf}
 use Rattle.kinds.specs.KindsLaws.{FitsFlash, fits-flash}
 use Rattle.pieces.specs.Pieces.{countOf, offsetOf, pieceOf}
 use Rattle.commands.specs.Commands.{parametersCommand, packetCommand, restartCommand, parametersFor, packetFor}
-use Rattle.module.specs.Session.{longestIdle, totalOf, session, openable, held, takes, isClosed, closedArises, arises}
-use Rattle.module.specs.SessionLaws.{openable-sizes, sizes-openable, Cut, cut-total, loading-facts, done-facts}
+use Rattle.module_model.specs.Phases.{longestIdle, closingIdle, totalOf, openable, held, isClosed, closedArises}
+use Rattle.module_model.specs.PhasesLaws.{openable-sizes, sizes-openable, Cut, cut-total, loading-facts, done-facts}
+use Rattle.module_model.specs.Rules.{phaseAt, restartDecision, decideOf}
+use Rattle.module_model.specs.Due.{parameters-accepted, Carries, waiting, waiting-none, waiting-some, packet-taken, writtenWith}
+use Rattle.module_model.specs.Due.{taken-waits, taken-done}
+use Rattle.module.specs.Session.{session, takes, arises}
 use Rattle.module.specs.SessionLaws.{facts-takes, takes-facts}
-use Rattle.module.specs.Rules.{phaseAt, restartDecision, decideOf}
 use Rattle.module.specs.Step.{Left, smallestReply}
-use Rattle.module.specs.Runs.{Given, Offer, given, nextOf, afterOf}
-use Rattle.module.specs.RunsLaws.{after-append}
-use Rattle.module.specs.Promises.{opened, Frames, RealEvent, Real, AllReal, Reached, ArisesReached}
-use Rattle.module.specs.Forward.{opened-ready, opened-closed, parameters-accepted, Carries}
-use Rattle.module.specs.Forward.{waiting, waiting-none, waiting-some, waiting-takes, packet-taken}
-use Rattle.module.specs.Forward.{writtenWith, taken-waits, taken-done, frame-taken, counted-takes, time-counted, time-closed}
-use Rattle.module.specs.declared.session.Transfer.{Transfer}
-use Rattle.module.specs.declared.session.Pieces.{Pieces}
-use Rattle.module.specs.declared.session.Phase.{Phase}
-use Rattle.module.specs.declared.session.Phase.the-variants.{Closed, Ready, Begun, Loading, Done}
+use Rattle.module_promises.specs.Runs.{Given, Offer, given, nextOf, afterOf}
+use Rattle.module_promises.specs.RunsLaws.{after-append}
+use Rattle.module_promises.specs.Promises.{opened, online, openedBy, Frames, RealEvent, Real, AllReal, Reached, ArisesReached}
+use Rattle.module_promises.specs.Forward.{opened-ready, opened-closed, waiting-takes, frame-taken, counted-takes, time-counted}
+use Rattle.module_promises.specs.Forward.{time-closed}
+use Rattle.module_model.specs.declared.phases.Transfer.{Transfer}
+use Rattle.module_model.specs.declared.phases.Pieces.{Pieces}
+use Rattle.module_model.specs.declared.phases.Phase.{Phase}
+use Rattle.module_model.specs.declared.phases.Phase.the-variants.{Closed, Ready, Begun, Loading, Done}
+use Rattle.module_model.specs.declared.events.Event.{Event}
+use Rattle.module_model.specs.declared.events.Event.the-variants.{Frame, Elapsed}
 use Rattle.module.specs.declared.session.Session.{Session}
-use Rattle.module.specs.declared.session.Event.{Event}
-use Rattle.module.specs.declared.session.Event.the-variants.{Frame, Elapsed}
 
 -- ---- one step more
 
@@ -49,11 +51,11 @@ reach-next : (s t : Session) (g : Given) → Real g → nextOf s g ≡ t → Rea
 unfolding afterOf
 reach-next s t g r e h =
     record {
-      flash = h .flash;
-      flash-bytes = h .flash-bytes;
+      opening = h .opening;
+      opening-bytes = h .opening-bytes;
       steps = h .steps ++ (g ∷ []);
       real = all-real-next (h .steps) g (h .real) r;
-      leads = after-append (opened (h .flash)) (h .steps) (g ∷ []) ∙ rw (h .leads) e;
+      leads = after-append (openedBy (h .opening)) (h .steps) (g ∷ []) ∙ rw (h .leads) e;
     }
 
 -- Every step is lent a flash of zeros and a reply buffer of 64 zeros.
@@ -93,7 +95,7 @@ reach-frame s command payload phase t byte b decides h =
 -- An opening of a flash of zeros: ready where it can be opened, else closed.
 reach-opened : (n : ℕ) (s : Session) → opened (zeros n) ≡ s → Reached s
 unfolding afterOf
-reach-opened n s e = record { flash = zeros n; flash-bytes = bytes-replicate n 0 (omega arith); steps = []; real = tt; leads = e }
+reach-opened n s e = record { opening = online (zeros n); opening-bytes = bytes-replicate n 0 (omega arith); steps = []; real = tt; leads = e }
 
 reach-ready : (n : ℕ) → openable n ≡ true → Reached (session n 0 Ready)
 reach-ready n can = reach-opened n (session n 0 Ready) (opened-ready (zeros n) n (zeros-long n) can)
@@ -209,14 +211,14 @@ reach-restarted flash can =
     reach-frame (session flash 0 Ready) restartCommand [] Closed (ready-takes flash can) (omega arith) tt refl (reach-ready flash can)
 
 -- A sum over 7,000 closes with 7,001.
-reach-expired : (flash : ℕ) → openable flash ≡ true → Reached (session flash 7001 Closed)
+reach-expired : (flash : ℕ) → openable flash ≡ true → Reached (session flash closingIdle Closed)
 reach-expired flash can =
     let ready = session flash 0 Ready in
-    let g = stepGiven flash (Elapsed 7001) [] in
+    let g = stepGiven flash (Elapsed closingIdle) [] in
     let t = ready-takes flash can in
-    let closes = time-closed ready 7001 [] (zeros flash) (g .reply) t (zeros-long flash) (omega arith) (omega arith) in
-    let real = step-real flash (Elapsed 7001) [] (omega arith) tt in
-    reach-next ready (session flash 7001 Closed) g real (ap (λ (l : Left). l .session) closes) (reach-ready flash can)
+    let closes = time-closed ready closingIdle [] (zeros flash) (g .reply) t (zeros-long flash) (omega arith) (omega arith) in
+    let real = step-real flash (Elapsed closingIdle) [] (omega arith) tt in
+    reach-next ready (session flash closingIdle Closed) g real (ap (λ (l : Left). l .session) closes) (reach-ready flash can)
 
 -- With the sum 0 any flash will do: one that cannot be opened is refused.
 reach-closed : (flash : ℕ) (t : Bool) → openable flash ≡ t → Reached (session flash 0 Closed)
@@ -226,9 +228,9 @@ reach-closed flash false cannot = reach-unopened flash cannot
 reach-shut : (flash idle : ℕ) (phase : Phase) → isClosed phase ≡ true → closedArises flash idle ≡ true → Reached (session flash idle phase)
 unfolding closedArises
 reach-shut flash idle Closed c h =
-    one-holds (eqb idle 0) (eqb idle 7001 && openable flash)
+    one-holds (eqb idle 0) (eqb idle closingIdle && openable flash)
     (λ e. rw (eqb-true idle 0 e) (reach-closed flash (openable flash) refl))
-    (λ e. let each = both (eqb idle 7001) (openable flash) e in rw (eqb-true idle 7001 (each .0)) (reach-expired flash (each .1)))
+    (λ e. let each = both (eqb idle closingIdle) (openable flash) e in rw (eqb-true idle closingIdle (each .0)) (reach-expired flash (each .1)))
     h
 reach-shut flash idle Ready c h = absurd (false≢true c)
 reach-shut flash idle (Begun t) c h = absurd (false≢true c)

@@ -1,46 +1,40 @@
--- What a frame can do to an open session, as five outcomes with the facts of each; and what a step can be.
+-- What a frame can do to a phase that could arise, as five outcomes with the facts of each.
 use Prim.Native.Nat.{ℕ, _+_, _*_, _-_, _≤_, _<_}
-use mathlib.Core.Bool.{true, false}
+use mathlib.Core.Bool.{true}
 use mathlib.Core.List.{List}
 use mathlib.Core.Path.{_≡_, refl, sym, ap, _∙_}
 use native.Mathlib.Nat.{le-refl}
 use native.Mathlib.Omega.{arith}
 use borrow.Author.Tests.{eqb-true}
-use lib.Dec.{eqb, ltb}
+use lib.Dec.{eqb}
 use lib.ListN.{length, length-drop}
 use Rattle.octets.specs.Octets.{Bytes, numberAt, partOf}
 use Rattle.octets.specs.Choice.{both, either-way}
-use Rattle.octets.specs.Lists.{bytes-take}
 use Rattle.octets.specs.PartLaws.{number-short}
 use Rattle.kinds.specs.Kinds.{kindOf, tokenOf, fitsFlash}
 use Rattle.kinds.specs.KindsLaws.{FitsFlash, fits-flash}
 use Rattle.kinds.specs.declared.Kind.{Kind}
 use Rattle.kinds.specs.declared.Known.{Known}
 use Rattle.kinds.specs.declared.Known.the-variants.{Is, Unknown}
-use Rattle.refusals.specs.Refusals.{noRoom, wrongLength}
 use Rattle.pieces.specs.Pieces.{offsetOf, sizeAt}
 use Rattle.pieces.specs.PiecesLaws.{size-first}
-use Rattle.commands.specs.Commands.{largestPacket, largestTotal, rateCommand, parametersCommand, packetCommand, restartCommand, accepted, wrongFirst, wrongSecond, notUnderstood}
-use Rattle.module.specs.Session.{totalOf, stepped, fits, held, takes}
-use Rattle.module.specs.SessionLaws.{Cut, cut-total, loading-facts, done-facts, takes-facts}
-use Rattle.module.specs.Rules.{dataIn, unmoved, rateDecision, kindDecision, knownDecision, parametersDecision, restartDecision}
-use Rattle.module.specs.Rules.{numbersIn, wellFormed, notTaken, placeOf, isPacket, acknowledged, taken}
-use Rattle.module.specs.Rules.{repeatDecision, firstDecision, loadingDecision, doneDecision, phaseDecision, packetDecision, decideOf}
-use Rattle.module.specs.RulesLaws.{formed, cut-into, PacketOf, packet-is, repeat-is}
-use Rattle.module.specs.Step.{Left, left, performed, timeStep, frameStep, eventStep, stepOf, smallestReply}
-use Rattle.module.specs.Runs.{Given, exchange, payloadOf, payloadIn}
-use Rattle.module.specs.declared.session.Transfer.{Transfer}
-use Rattle.module.specs.declared.session.Pieces.{Pieces}
-use Rattle.module.specs.declared.session.Phase.{Phase}
-use Rattle.module.specs.declared.session.Phase.the-variants.{Closed, Ready, Begun, Loading, Done}
-use Rattle.module.specs.declared.session.Session.{Session}
-use Rattle.module.specs.declared.session.Event.{Event}
-use Rattle.module.specs.declared.session.Event.the-variants.{Frame, Elapsed}
-use Rattle.module.specs.declared.session.Answer.the-variants as answer
-use Rattle.module.specs.declared.rules.Say.{Say}
-use Rattle.module.specs.declared.rules.Say.the-variants.{Nothing, Rate, Parameters, Packet, Last, Restart}
-use Rattle.module.specs.declared.rules.Put.the-variants.{Nowhere}
-use Rattle.module.specs.declared.rules.Decision.{Decision}
+use Rattle.commands.specs.Commands.{largestPacket, largestTotal, rateCommand, parametersCommand, packetCommand, restartCommand}
+use Rattle.commands.specs.Commands.{accepted, wrongFirst, wrongSecond, notUnderstood}
+use Rattle.module_model.specs.Phases.{totalOf, fits, held}
+use Rattle.module_model.specs.PhasesLaws.{Cut, cut-total, loading-facts, done-facts}
+use Rattle.module_model.specs.Rules.{dataIn, unmoved, rateDecision, kindDecision, knownDecision, parametersDecision}
+use Rattle.module_model.specs.Rules.{restartDecision, numbersIn, wellFormed, notTaken, placeOf, isPacket, acknowledged, taken}
+use Rattle.module_model.specs.Rules.{repeatDecision, firstDecision, loadingDecision, doneDecision, phaseDecision}
+use Rattle.module_model.specs.Rules.{packetDecision, decideOf, packetHead, parametersLength, typeField, lengthField, addressField}
+use Rattle.module_model.specs.RulesLaws.{formed, cut-into, PacketOf, packet-is, repeat-is}
+use Rattle.module_model.specs.declared.phases.Transfer.{Transfer}
+use Rattle.module_model.specs.declared.phases.Pieces.{Pieces}
+use Rattle.module_model.specs.declared.phases.Phase.{Phase}
+use Rattle.module_model.specs.declared.phases.Phase.the-variants.{Closed, Ready, Begun, Loading, Done}
+use Rattle.module_model.specs.declared.rules.Say.{Say}
+use Rattle.module_model.specs.declared.rules.Say.the-variants.{Nothing, Rate, Parameters, Packet, Last, Restart}
+use Rattle.module_model.specs.declared.rules.Put.the-variants.{Nowhere}
+use Rattle.module_model.specs.declared.rules.Decision.{Decision}
 
 -- ---- the outcomes
 
@@ -77,7 +71,7 @@ pub data Accepted (phase : Phase) (p : Pieces) (number : ℕ) : Type 0 where
 pub data Outcome (phase : Phase) (command : ℕ) (payload flash : List ℕ) (d : Decision) : Type 0 where
   stays : (say : Say) → Plain say → d ≡ unmoved phase say → Outcome phase command payload flash d
   restarts : command ≡ restartCommand → d ≡ unmoved Closed (Restart accepted) → Outcome phase command payload flash d
-  begins : (t : Transfer) → command ≡ parametersCommand → kindOf (numberAt 2 payload 0) ≡ Is (t .kind) → numberAt 4 payload 2 ≡ t .length
+  begins : (t : Transfer) → command ≡ parametersCommand → kindOf (typeField payload) ≡ Is (t .kind) → lengthField payload ≡ t .length
       → FitsFlash (t .kind) (t .length) (length flash) → d ≡ unmoved (Begun t) (Parameters accepted)
       → Outcome phase command payload flash d
   advances : (p : Pieces) (number : ℕ) → command ≡ packetCommand → Expects phase p number → Belongs p number payload (length flash)
@@ -104,17 +98,17 @@ module _ (phase : Phase) (command : ℕ) (payload flash : List ℕ) where
   restart-outcome c =
       either-way Out (eqb (length payload) 0) (λ e. restarts c refl) (λ e. plain (Restart notUnderstood) (omega arith))
 
-  kind-outcome : (k : Kind) → command ≡ parametersCommand → kindOf (numberAt 2 payload 0) ≡ Is k
+  kind-outcome : (k : Kind) → command ≡ parametersCommand → kindOf (typeField payload) ≡ Is k
       → Out (kindDecision phase k payload (length flash))
   unfolding kindDecision
   kind-outcome k c e =
-      either-way Out (eqb (numberAt 4 payload 6) (tokenOf k))
-      (λ t. either-way Out (fitsFlash k (numberAt 4 payload 2) (length flash))
-      (λ f. begins (record { kind = k; length = numberAt 4 payload 2 }) c e refl (fits-flash k (numberAt 4 payload 2) (length flash) f) refl)
+      either-way Out (eqb (addressField payload) (tokenOf k))
+      (λ t. either-way Out (fitsFlash k (lengthField payload) (length flash))
+      (λ f. begins (record { kind = k; length = lengthField payload }) c e refl (fits-flash k (lengthField payload) (length flash) f) refl)
       (λ f. plain (Parameters wrongSecond) (omega arith)))
       (λ t. plain (Parameters notUnderstood) (omega arith))
 
-  known-outcome : (k : Known) → command ≡ parametersCommand → kindOf (numberAt 2 payload 0) ≡ k
+  known-outcome : (k : Known) → command ≡ parametersCommand → kindOf (typeField payload) ≡ k
       → Out (knownDecision phase k payload (length flash))
   known-outcome (Is k) c e = kind-outcome k c e
   known-outcome Unknown c e = plain (Parameters wrongFirst) (omega arith)
@@ -122,7 +116,7 @@ module _ (phase : Phase) (command : ℕ) (payload flash : List ℕ) where
   parameters-outcome : command ≡ parametersCommand → Out (parametersDecision phase payload (length flash))
   unfolding parametersDecision
   parameters-outcome c =
-      either-way Out (eqb (length payload) 10) (λ e. known-outcome (kindOf (numberAt 2 payload 0)) c refl)
+      either-way Out (eqb (length payload) parametersLength) (λ e. known-outcome (kindOf (typeField payload)) c refl)
       (λ e. plain (Parameters notUnderstood) (omega arith))
 
 -- ---- packets
@@ -136,7 +130,7 @@ pub record Formed (payload : List ℕ) : Type 0 where
 pub data-formed : (payload : List ℕ) → wellFormed (length payload) (numbersIn payload .size) ≡ true → Formed payload
 data-formed payload h =
     let f = formed (length payload) (numbersIn payload .size) h in
-    let data-size : length (dataIn payload) ≡ numbersIn payload .size = length-drop 6 payload ∙ omega (arith, f .long) in
+    let data-size : length (dataIn payload) ≡ numbersIn payload .size = length-drop packetHead payload ∙ omega (arith, f .long) in
     record { some = omega (arith, data-size, f .some); most = omega (arith, data-size, f .most); size-is = sym data-size }
 
 -- Two bytes carry a Total.
@@ -262,42 +256,3 @@ outcome phase command payload flash bytes held =
     either-way Out (eqb command packetCommand) (λ c. packet-outcome phase command payload flash (eqb-true command packetCommand c) bytes held) (λ c.
     either-way Out (eqb command restartCommand) (λ c. restart-outcome phase command payload flash (eqb-true command restartCommand c)) (λ c.
     plain phase command payload flash Nothing tt))))
-
--- ---- any step
-
--- What a step can be: refused; not taken; time in an open session; a frame in an open session.
-pub data Step (s : Session) (g : Given) (x : Left) : Type 0 where
-  refuses : (n : ℕ) → x ≡ left (stepped s (answer.Refused n)) (g .flash) (g .reply) → Step s g x
-  sleeps : takes s ≡ false → x ≡ left (stepped s answer.Nothing) (g .flash) (g .reply) → Step s g x
-  waits : takes s ≡ true → length (g .flash) ≡ s .flash → (ms : ℕ) → g .event ≡ Elapsed ms → x ≡ left (timeStep s ms) (g .flash) (g .reply)
-      → Step s g x
-  hears : takes s ≡ true → length (g .flash) ≡ s .flash → (command count : ℕ) → g .event ≡ Frame command count
-      → x ≡ performed s (decideOf (s .phase) command (payloadOf g) (g .flash)) (payloadOf g) (g .flash) (g .reply) → Step s g x
-
--- An event in an open session.
-event-step : (s : Session) (e : Event) (payload flash reply : List ℕ) → takes s ≡ true → length flash ≡ s .flash
-    → Step s (record { event = e; payload = payload; flash = flash; reply = reply }) (eventStep s e payload flash reply)
-unfolding frameStep
-event-step s (Frame command count) payload flash reply t size = hears t size command count refl refl
-event-step s (Elapsed ms) payload flash reply t size = waits t size ms refl refl
-
--- Any step.
-pub step-of : (s : Session) (g : Given) → Step s g (exchange s g .left)
-unfolding stepOf
-step-of s g =
-    either-way (Step s g) (ltb (length (g .reply)) smallestReply) (λ r. refuses noRoom refl) (λ r.
-    either-way (Step s g) (eqb (length (g .flash)) (s .flash))
-    (λ f. either-way (Step s g) (takes s)
-    (λ t. event-step s (g .event) (g .payload) (g .flash) (g .reply) t (eqb-true (length (g .flash)) (s .flash) f))
-    (λ t. sleeps t refl))
-    (λ f. refuses wrongLength refl))
-
--- What the frame that an open session is given does.
-pub outcome-of : (s : Session) (g : Given) → Bytes (g .payload) → takes s ≡ true → length (g .flash) ≡ s .flash → (command : ℕ)
-    → Outcome (s .phase) command (payloadOf g) (g .flash) (decideOf (s .phase) command (payloadOf g) (g .flash))
-outcome-of s g bytes t size command =
-    outcome (s .phase) command (payloadOf g) (g .flash) (event-bytes (g .event)) (rw (sym size) at (takes-facts s t .1))
-  where
-    event-bytes : (e : Event) → Bytes (payloadIn e (g .payload))
-    event-bytes (Frame command count) = bytes-take count (g .payload) bytes
-    event-bytes (Elapsed ms) = tt

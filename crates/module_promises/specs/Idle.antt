@@ -1,34 +1,33 @@
 -- M4: the idle sum, what is refused, what is closed.
 use Prim.Native.Nat.{ℕ, _+_, _-_, _<_}
 use mathlib.Core.Bool.{Bool, true, false, false≢true}
-use mathlib.Core.List.{List, [], _∷_, List·Memᴰ, List·Memᴰ·head}
+use mathlib.Core.List.{List, [], _∷_}
 use mathlib.Core.Path.{_≡_, refl, sym, ap, _∙_}
 use native.Mathlib.Omega.{arith}
 use borrow.Author.Tests.{leb-false}
-use lib.Dec.{eqb, leb}
+use lib.Dec.{leb}
 use Rattle.octets.specs.Choice.{either-way}
-use Rattle.commands.specs.Commands.{restartCommand, restartReply, accepted}
-use Rattle.module.specs.Session.{longestIdle, session, stepped, totalOf, takes, held, isClosed}
-use Rattle.module.specs.SessionLaws.{takes-facts}
 use Rattle.octets.specs.Octets.{Bytes}
 use Rattle.wire.specs.Frame as wire
-use Rattle.module.specs.Rules.{framesOf, phaseAt, decideOf}
+use Rattle.module_model.specs.Phases.{longestIdle, isClosed}
+use Rattle.module_model.specs.Rules.{framesOf, decideOf}
+use Rattle.module_model.specs.Outcomes.{stays, restarts}
+use Rattle.module_model.specs.Leads.{held-open, frame-only}
+use Rattle.module_model.specs.Answers.{isRefused}
+use Rattle.module.specs.Session.{session, stepped, takes}
+use Rattle.module.specs.SessionLaws.{takes-facts}
 use Rattle.module.specs.Step.{Left, left, timeStep, answerOf}
-use Rattle.module.specs.Runs.{Given, exchange, nextOf, isRefused, payloadOf}
-use Rattle.module.specs.RunsLaws.{heard-performed}
-use Rattle.module.specs.Forward.{time-counted, time-closed}
-use Rattle.module.specs.Outcomes.{Outcome, stays, restarts, begins, advances, repeats, Step, refuses, sleeps, waits, hears, step-of, outcome-of}
-use Rattle.module.specs.Promises.{Closes, idle, restart, IdleRule, RefusedLeaves, ClosedLeaves}
-use Rattle.module.specs.declared.session.Pieces.{Pieces}
-use Rattle.module.specs.declared.session.Phase.{Phase}
-use Rattle.module.specs.declared.session.Phase.the-variants.{Closed, Ready, Begun, Loading, Done}
+use Rattle.module_promises.specs.Runs.{Given, exchange, nextOf, payloadOf}
+use Rattle.module_promises.specs.RunsLaws.{heard-performed}
+use Rattle.module_promises.specs.Forward.{time-counted, time-closed}
+use Rattle.module_promises.specs.Steps.{Step, refuses, sleeps, waits, hears, step-of, outcome-of}
+use Rattle.module_promises.specs.Promises.{Closes, idle, restart, IdleRule, RefusedLeaves, ClosedLeaves}
+use Rattle.module_model.specs.declared.events.Event.{Event}
+use Rattle.module_model.specs.declared.events.Event.the-variants.{Frame, Elapsed}
+use Rattle.module_model.specs.declared.events.Answer.{Answer}
+use Rattle.module_model.specs.declared.events.Answer.the-variants.{Nothing, Refused}
 use Rattle.module.specs.declared.session.Session.{Session}
 use Rattle.module.specs.declared.session.Stepped.{Stepped}
-use Rattle.module.specs.declared.session.Event.{Event}
-use Rattle.module.specs.declared.session.Event.the-variants.{Frame, Elapsed}
-use Rattle.module.specs.declared.session.Answer.{Answer}
-use Rattle.module.specs.declared.session.Answer.the-variants.{Nothing, Refused}
-use Rattle.module.specs.declared.rules.Decision.{Decision}
 
 -- ---- time
 
@@ -37,37 +36,14 @@ pub time-answer : (s : Session) (ms : ℕ) → timeStep s ms .answer ≡ Nothing
 unfolding timeStep
 time-answer s ms = either-way (λ (r : Stepped). r .answer ≡ Nothing) (leb ms (longestIdle - s .idle)) (λ e. refl) (λ e. refl)
 
-time-only : (s : Session) (ms : ℕ) → isClosed (s .phase) ≡ false → isClosed (timeStep s ms .session .phase) ≡ true → 7000 < s .idle + ms
+time-only : (s : Session) (ms : ℕ) → isClosed (s .phase) ≡ false → isClosed (timeStep s ms .session .phase) ≡ true → longestIdle < s .idle + ms
 unfolding timeStep
 time-only s ms o =
-    either-way (λ (r : Stepped). isClosed (r .session .phase) ≡ true → 7000 < s .idle + ms) (leb ms (longestIdle - s .idle))
+    either-way (λ (r : Stepped). isClosed (r .session .phase) ≡ true → longestIdle < s .idle + ms) (leb ms (longestIdle - s .idle))
     (λ e c. absurd (false≢true (sym o ∙ c)))
     (λ e c. omega (arith, leb-false ms (longestIdle - s .idle) e))
 
 -- ---- frames
-
--- A phase that could arise is not closed.
-pub held-open : (phase : Phase) (flash : ℕ) → held phase flash ≡ true → isClosed phase ≡ false
-held-open Closed flash h = absurd (false≢true h)
-held-open Ready flash h = refl
-held-open (Begun t) flash h = refl
-held-open (Loading p number written) flash h = refl
-held-open (Done p written) flash h = refl
-
--- An accepted packet closes nothing.
-phase-at-open : (p : Pieces) (number written : ℕ) → isClosed (phaseAt p number written) ≡ false
-unfolding phaseAt
-phase-at-open p number written = either-way (λ (phase : Phase). isClosed phase ≡ false) (eqb number (totalOf p)) (λ e. refl) (λ e. refl)
-
--- Of the frames only an accepted 0x06 closes.
-frame-only : (phase : Phase) (command : ℕ) (payload flash : List ℕ) (d : Decision) → isClosed phase ≡ false
-    → Outcome phase command payload flash d → isClosed (d .phase) ≡ true
-    → (command ≡ restartCommand) × List·Memᴰ (restartReply accepted) (framesOf (d .say))
-frame-only phase command payload flash d o (stays say h e) c = absurd (false≢true (sym o ∙ (rw e at c)))
-frame-only phase command payload flash d o (restarts is e) c = (is, rw e (List·Memᴰ·head refl))
-frame-only phase command payload flash d o (begins t is k n f e) c = absurd (false≢true (rw e at c))
-frame-only phase command payload flash d o (advances p number is x k e) c = absurd (false≢true (sym (phase-at-open p number _) ∙ (rw e at c)))
-frame-only phase command payload flash d o (repeats p number is x k same e) c = absurd (false≢true (sym o ∙ (rw e at c)))
 
 -- Such a reply is no refusal.
 pub reply-taken : (fs : List wire.Frame) → isRefused (answerOf fs) ≡ false

@@ -1,8 +1,8 @@
 -- What a history has accepted since its last parameters, phase by phase, and that each step keeps this.
 use Prim.Native.Nat.{ℕ, _+_, _-_, _≤_, _<_}
 use mathlib.Core.Bool.{false}
-use mathlib.Core.List.{List, [], _∷_, _++_, append-assoc, append-nil, List·Memᴰ, List·Memᴰ·head, List·Memᴰ·not-nil}
-use mathlib.Core.List.{Memᴰ·append-left, Memᴰ·append-right}
+use mathlib.Core.List.{List, [], _∷_, _++_, append-assoc, append-nil, List·Memᴰ, List·Memᴰ·head, List·Memᴰ·not-nil, Memᴰ·append-left}
+use mathlib.Core.List.{Memᴰ·append-right}
 use mathlib.Core.Logic.{inl, inr}
 use mathlib.Core.Path.{_≡_, refl, sym, ap, _∙_}
 use native.Mathlib.Decide.{decLe}
@@ -18,19 +18,22 @@ use Rattle.kinds.specs.Kinds.{baseOf}
 use Rattle.pieces.specs.Pieces.{offsetOf, sizeAt}
 use Rattle.pieces.specs.PiecesLaws.{Within, within, next-offset}
 use Rattle.commands.specs.Commands.{largestPacket, largestTotal, accepted, parametersReply, packetReply}
-use Rattle.module.specs.Session.{openable, openingOf, totalOf}
-use Rattle.module.specs.SessionLaws.{cut-length}
-use Rattle.module.specs.Rules.{dataIn, placeOf}
-use Rattle.module.specs.Runs.{Given, Exchange, exchange, nextOf, afterOf, runOf, AllBytes, isRefused, Says, payloadOf}
-use Rattle.module.specs.Outcomes.{Belongs, Expects, first, later, Accepted, loading, done}
-use Rattle.module.specs.Said.{Quiet, Acknowledging, Declares, Acknowledges, Turn, quiet, declares, writes, again, heardOf, turn-of}
-use Rattle.module.specs.Promises.{opened, LastParameters, Acknowledged, keptBy, NobodyElse, joined}
-use Rattle.module.specs.declared.session.Transfer.{Transfer}
-use Rattle.module.specs.declared.session.Pieces.{Pieces}
-use Rattle.module.specs.declared.session.Phase.{Phase}
-use Rattle.module.specs.declared.session.Phase.the-variants.{Closed, Ready, Begun, Loading, Done}
+use Rattle.module_model.specs.Phases.{openable, totalOf}
+use Rattle.module_model.specs.PhasesLaws.{cut-length}
+use Rattle.module_model.specs.Rules.{dataIn, placeOf}
+use Rattle.module_model.specs.Outcomes.{Belongs, Expects, first, later, Accepted, loading, done}
+use Rattle.module_model.specs.Replies.{Quiet, Acknowledging}
+use Rattle.module_model.specs.Answers.{isRefused}
+use Rattle.module.specs.Session.{openingOf}
+use Rattle.module_promises.specs.Runs.{Given, Exchange, exchange, nextOf, afterOf, runOf, AllBytes, Says, payloadOf}
+use Rattle.module_promises.specs.Said.{Declares, Acknowledges, Turn, quiet, declares, writes, again, heardOf, turn-of}
+use Rattle.module_promises.specs.Promises.{Opening, online, openedBy, LastParameters, Acknowledged, keptBy, NobodyElse, joined}
+use Rattle.module_model.specs.declared.phases.Transfer.{Transfer}
+use Rattle.module_model.specs.declared.phases.Pieces.{Pieces}
+use Rattle.module_model.specs.declared.phases.Phase.{Phase}
+use Rattle.module_model.specs.declared.phases.Phase.the-variants.{Closed, Ready, Begun, Loading, Done}
 use Rattle.module.specs.declared.session.Session.{Session}
 use Rattle.module.specs.declared.session.Stepped.{Stepped}
 
 -- ---- the flash that nobody else writes
 
@@ -417,12 +420,12 @@ run-tracked history s (g ∷ gs) bytes h =
     (run-tracked (history ++ (exchange s g ∷ [])) (nextOf s g) gs (bytes .1) (tracked-more history s g (bytes .0) h))
 
 -- An opening has accepted nothing.
-opening-tracked : (flash : List ℕ) → Tracked [] (opened flash .phase)
+opening-tracked : (o : Opening) → Tracked [] (openedBy o .phase)
 unfolding openingOf
-opening-tracked flash =
+opening-tracked (online flash) =
     either-way (λ (r : Stepped). Tracked [] (r .session .phase)) (openable (length flash)) (λ o. tt) (λ o. tt)
 
 -- Every run from an opening.
-pub reached-tracked : (flash : List ℕ) (gs : List Given) → AllBytes gs
-    → Tracked (runOf (opened flash) gs) (afterOf (opened flash) gs .phase)
-reached-tracked flash gs bytes = run-tracked [] (opened flash) gs bytes (opening-tracked flash)
+pub reached-tracked : (o : Opening) (gs : List Given) → AllBytes gs
+    → Tracked (runOf (openedBy o) gs) (afterOf (openedBy o) gs .phase)
+reached-tracked o gs bytes = run-tracked [] (openedBy o) gs bytes (opening-tracked o)

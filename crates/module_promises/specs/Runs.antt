@@ -1,19 +1,17 @@
 -- Runs of the module: its step's definition folded over what it is given, and what a reader hears in its replies.
 use Prim.Native.Nat.{ℕ}
-use mathlib.Core.Bool.{Bool, true, false}
 use mathlib.Core.List.{List, [], _∷_, map, List·Memᴰ}
 use lib.ListN.{take}
 use Rattle.octets.specs.Octets.{Bytes}
 use Rattle.wire.specs.Frame.{Frame}
 use Rattle.reader.specs.Reader.{fresh}
 use Rattle.reader.specs.Runs.{Placed, handedOf}
+use Rattle.module_model.specs.Answers.{countIn}
 use Rattle.module.specs.Step.{Left, stepOf}
+use Rattle.module_model.specs.declared.events.Event.{Event}
+use Rattle.module_model.specs.declared.events.Event.the-variants.{Elapsed}
+use Rattle.module_model.specs.declared.events.Event.the-variants as event
 use Rattle.module.specs.declared.session.Session.{Session}
-use Rattle.module.specs.declared.session.Event.{Event}
-use Rattle.module.specs.declared.session.Event.the-variants.{Elapsed}
-use Rattle.module.specs.declared.session.Event.the-variants as event
-use Rattle.module.specs.declared.session.Answer.{Answer}
-use Rattle.module.specs.declared.session.Answer.the-variants.{Nothing, Sent, Refused}
 
 -- ---- runs with any flash lent at each step
 
@@ -51,22 +49,6 @@ AllBytes [] = Unit
 AllBytes (g ∷ gs) = Bytes (g .payload) × AllBytes gs
 
 -- ---- what is heard
-
--- What an answer says: how many bytes are sent, and the refusal number, 0 for none.
-abbrev pub countIn : Answer → ℕ
-countIn Nothing = 0
-countIn (Sent n) = n
-countIn (Refused n) = 0
-
-abbrev pub refusalIn : Answer → ℕ
-refusalIn Nothing = 0
-refusalIn (Sent n) = 0
-refusalIn (Refused n) = n
-
-abbrev pub isRefused : Answer → Bool
-isRefused Nothing = false
-isRefused (Sent n) = false
-isRefused (Refused n) = true
 
 -- The bytes that a step sends.
 abbrev pub sentBy : Left → List ℕ

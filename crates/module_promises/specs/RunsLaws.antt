@@ -11,13 +11,15 @@ use Rattle.reader.specs.Runs.{Placed}
 use Rattle.reader.specs.Seen.{Seen, outside, seenAfter, seenHanded}
 use Rattle.reader.specs.SeenLaws.{fresh-handed, handed-append}
 use Rattle.reader.specs.Feed.{handed-frame}
-use Rattle.module.specs.Rules.{framesOf}
+use Rattle.module_model.specs.Rules.{framesOf}
+use Rattle.module_model.specs.Answers.{countIn}
 use Rattle.module.specs.Step.{wiresOf, answerOf, performed}
-use Rattle.module.specs.Runs.{Given, Exchange, Offer, exchange, given, nextOf, afterOf, carried, carriedAfter, heardIn, sentBy, countIn}
+use Rattle.module_promises.specs.Runs.{Given, Exchange, Offer, exchange, given, nextOf, afterOf, carried, carriedAfter, heardIn}
+use Rattle.module_promises.specs.Runs.{sentBy}
+use Rattle.module_model.specs.declared.rules.Decision.{Decision}
+use Rattle.module_model.specs.declared.rules.Say.{Say}
+use Rattle.module_model.specs.declared.rules.Say.the-variants.{Nothing, Rate, Parameters, Packet, Last, Restart}
 use Rattle.module.specs.declared.session.Session.{Session}
-use Rattle.module.specs.declared.rules.Decision.{Decision}
-use Rattle.module.specs.declared.rules.Say.{Say}
-use Rattle.module.specs.declared.rules.Say.the-variants.{Nothing, Rate, Parameters, Packet, Last, Restart}
 
 -- ---- what is heard
 

@@ -1,15 +1,13 @@
--- What frames and time do where the facts for them hold: parameters that fit are accepted, the packet that is due is taken, a short
--- wait is counted.
+-- What is decided where the facts for it hold: parameters that fit are accepted, the packet that is due is taken.
 use Prim.Native.Nat.{ℕ, zero, suc, _+_, _*_, _-_, _^_, _≤_, _<_}
-use mathlib.Core.Bool.{true, false, cond}
+use mathlib.Core.Bool.{true, cond}
 use mathlib.Core.List.{List}
 use mathlib.Core.Path.{_≡_, refl, sym, ap, _∙_}
 use native.Mathlib.Nat.{zero-mul}
 use native.Mathlib.Omega.{arith}
-use borrow.Author.Tests.{le-leb, lt-leb, eq-eqb, ne-eqb}
+use borrow.Author.Tests.{eq-eqb, ne-eqb}
 use lib.Dec.{eqb}
 use lib.ListN.{length}
-use Rattle.octets.specs.Choice.{cond-yes, cond-no}
 use Rattle.octets.specs.Octets.{numberAt, spelled}
 use Rattle.octets.specs.OctetsLaws.{little-spelled}
 use Rattle.kinds.specs.Kinds.{numberOf, tokenOf, longestImage}
@@ -17,43 +15,20 @@ use Rattle.kinds.specs.KindsLaws.{FitsFlash, flash-fits, kind-of-number, kind-s
 use Rattle.kinds.specs.declared.Kind.{Kind}
 use Rattle.kinds.specs.declared.Kind.the-variants.{Navigation, Upgrade, Parameters}
 use Rattle.pieces.specs.Pieces.{countOf, sizeAt, pieceOf}
-use Rattle.pieces.specs.PiecesLaws.{within, size-first, size-before, length-piece, ends-with}
-use Rattle.pieces.specs.PiecesLaws.{product-more}
+use Rattle.pieces.specs.PiecesLaws.{within, size-first, size-before, length-piece, ends-with, product-more}
 use Rattle.commands.specs.Commands.{largestPacket, parametersCommand, packetCommand, accepted, parametersFor, packetFor}
-use Rattle.module.specs.Session.{largestFlash, longestIdle, session, stepped}
-use Rattle.module.specs.Session.{openable, openingOf, totalOf, held, takes}
-use Rattle.module.specs.SessionLaws.{Cut, cut-length, facts-loading, facts-takes, takes-facts}
-use Rattle.module.specs.Rules.{unmoved, taken, dataIn}
-use Rattle.module.specs.Rules.{kindDecision, parametersDecision, numbersIn}
-use Rattle.module.specs.Rules.{phaseAt, firstDecision, loadingDecision, phaseDecision, packetDecision, decideOf}
-use Rattle.module.specs.RulesLaws.{formed-yes, cut-yes, packet-yes, first-taken, next-taken}
-use Rattle.module.specs.Step.{left, smallestReply, performed, frameStep, timeStep, stepOf}
-use Rattle.module.specs.Runs.{Offer, given, exchange}
-use Rattle.module.specs.StepLaws.{step-open}
-use Rattle.module.specs.Promises.{opened, Frames}
-use Rattle.module.specs.declared.session.Transfer.{Transfer}
-use Rattle.module.specs.declared.session.Pieces.{Pieces}
-use Rattle.module.specs.declared.session.Phase.{Phase}
-use Rattle.module.specs.declared.session.Phase.the-variants.{Closed, Ready, Begun, Loading, Done}
-use Rattle.module.specs.declared.session.Session.{Session}
-use Rattle.module.specs.declared.session.Event.the-variants.{Elapsed}
-use Rattle.module.specs.declared.session.Answer.the-variants.{Nothing}
-use Rattle.module.specs.declared.session.Stepped.{Stepped}
-use Rattle.module.specs.declared.rules.Say.the-variants as say
-use Rattle.module.specs.declared.rules.Numbers.{Numbers}
-
--- ---- the opening
-
--- A flash that can be opened gives a ready session, any other a closed one.
-pub opened-ready : (flash : List ℕ) (n : ℕ) → length flash ≡ n → openable n ≡ true → opened flash ≡ session n 0 Ready
-unfolding openingOf
-opened-ready flash n long can =
-    ap (λ (r : Stepped). r .session) (cond-yes (openable (length flash)) _ _ (rw long can)) ∙ rw long
-
-pub opened-closed : (flash : List ℕ) (n : ℕ) → length flash ≡ n → openable n ≡ false → opened flash ≡ session n 0 Closed
-unfolding openingOf
-opened-closed flash n long cannot =
-    ap (λ (r : Stepped). r .session) (cond-no (openable (length flash)) _ _ (rw long cannot)) ∙ rw long
+use Rattle.module_model.specs.Phases.{totalOf, held}
+use Rattle.module_model.specs.PhasesLaws.{Cut, cut-length, facts-loading}
+use Rattle.module_model.specs.Rules.{unmoved, taken, dataIn, kindDecision, parametersDecision, numbersIn, phaseAt}
+use Rattle.module_model.specs.Rules.{packetHead, parametersLength, typeField, lengthField, addressField}
+use Rattle.module_model.specs.Rules.{firstDecision, loadingDecision, phaseDecision, packetDecision, decideOf}
+use Rattle.module_model.specs.RulesLaws.{formed-yes, cut-yes, packet-yes, first-taken, next-taken}
+use Rattle.module_model.specs.declared.phases.Transfer.{Transfer}
+use Rattle.module_model.specs.declared.phases.Pieces.{Pieces}
+use Rattle.module_model.specs.declared.phases.Phase.{Phase}
+use Rattle.module_model.specs.declared.phases.Phase.the-variants.{Begun, Loading, Done}
+use Rattle.module_model.specs.declared.rules.Say.the-variants as say
+use Rattle.module_model.specs.declared.rules.Numbers.{Numbers}
 
 -- ---- parameters
 
@@ -68,19 +43,19 @@ token-spelled Upgrade = omega arith
 token-spelled Parameters = omega arith
 
 -- The three numbers of the parameters for an image are read again.
-pub type-read : (kind : Kind) (image : List ℕ) → numberAt 2 (parametersFor kind (length image)) 0 ≡ numberOf kind
+pub type-read : (kind : Kind) (image : List ℕ) → typeField (parametersFor kind (length image)) ≡ numberOf kind
 unfolding numberAt spelled
 type-read kind image = little-spelled 2 (numberOf kind) (kind-spelled kind .0)
 
-pub length-read : (kind : Kind) (image : List ℕ) → length image ≤ longestImage → numberAt 4 (parametersFor kind (length image)) 2 ≡ length image
+pub length-read : (kind : Kind) (image : List ℕ) → length image ≤ longestImage → lengthField (parametersFor kind (length image)) ≡ length image
 unfolding numberAt spelled
 length-read kind image h = little-spelled 4 (length image) (omega arith)
 
-address-read : (kind : Kind) (image : List ℕ) → numberAt 4 (parametersFor kind (length image)) 6 ≡ tokenOf kind
+address-read : (kind : Kind) (image : List ℕ) → addressField (parametersFor kind (length image)) ≡ tokenOf kind
 unfolding numberAt spelled
 address-read kind image = little-spelled 4 (tokenOf kind) (token-spelled kind)
 
-parameters-long : (kind : Kind) (image : List ℕ) → length (parametersFor kind (length image)) ≡ 10
+parameters-long : (kind : Kind) (image : List ℕ) → length (parametersFor kind (length image)) ≡ parametersLength
 unfolding spelled
 parameters-long kind image = refl
 
@@ -154,7 +129,7 @@ pub data-read : (image : List ℕ) (size k : ℕ) → dataIn (packetFor image si
 unfolding spelled
 data-read image size k = refl
 
-packet-long : (image : List ℕ) (size k : ℕ) → length (packetFor image size k) ≡ 6 + length (pieceOf image size k)
+packet-long : (image : List ℕ) (size k : ℕ) → length (packetFor image size k) ≡ packetHead + length (pieceOf image size k)
 unfolding spelled
 packet-long image size k = omega arith
 
@@ -188,21 +163,13 @@ unfolding waiting
 waiting-some p n one = rw (ne-eqb n 0 (λ e. omega (arith, one, e)))
 
 -- Such a phase holds over a flash that the transfer fits.
-waiting-held : (p : Pieces) (image : List ℕ) (flash n : ℕ) → Carries p image flash → n < totalOf p → held (waiting p n) flash ≡ true
+pub waiting-held : (p : Pieces) (image : List ℕ) (flash n : ℕ) → Carries p image flash → n < totalOf p → held (waiting p n) flash ≡ true
 waiting-held p image flash zero c less =
     rw (waiting-none p) (flash-fits (p .transfer .kind) (p .transfer .length) flash (c .fitting))
 waiting-held p image flash (suc n) c less =
     rw (waiting-some p (suc n) (omega arith))
     (facts-loading p flash (suc n) (suc n * p .size)
     (record { fitting = c .fitting; cut = c .cut; one = omega arith; before = less; all = refl }))
-
--- A session in such a phase takes events.
-pub waiting-takes : (p : Pieces) (image : List ℕ) (flash n : ℕ) → Carries p image flash → n < totalOf p → flash ≤ largestFlash
-    → takes (session flash 0 (waiting p n)) ≡ true
-waiting-takes p image flash n c less most =
-    facts-takes (session flash 0 (waiting p n))
-    (record { some = omega (arith, c .fitting .some, c .fitting .inside); most = most; waited = omega arith })
-    (waiting-held p image flash n c less)
 
 -- The numbers of the packet with a number that belongs to a transfer.
 abbrev numbersAt : Pieces → ℕ → Numbers
@@ -261,38 +228,3 @@ taken-done p n c last =
     let written : writtenWith p n ≡ p .transfer .length =
     rw (last, offset) (ends-with (p .transfer .length) (p .size) (cut-length p c) (c .some)) in
     rw (eq-eqb (n + 1) (totalOf p) last, written)
-
--- ---- steps
-
--- A frame given to an open session over the flash of the opening, with room for a reply, is decided and performed.
-pub frame-taken : (s : Session) (command : ℕ) (payload flash : List ℕ) (o : Offer) → takes s ≡ true → length flash ≡ s .flash
-    → Frames command payload o
-    → exchange s (given flash o) .left ≡ performed s (decideOf (s .phase) command payload flash) payload flash (o .reply)
-unfolding frameStep
-frame-taken s command payload flash o t size f =
-    step-open s (o .event) (o .payload) flash (o .reply) (f .room) size t
-    ∙ rw (f .event-is, f .payload-is)
-
--- A wait after which the sum is at most 7,000 is counted.
-pub time-counted : (s : Session) (ms : ℕ) (payload flash reply : List ℕ) → takes s ≡ true → length flash ≡ s .flash
-    → smallestReply ≤ length reply → s .idle + ms ≤ longestIdle
-    → stepOf s (Elapsed ms) payload flash reply ≡ left (stepped (session (s .flash) (s .idle + ms) (s .phase)) Nothing) flash reply
-unfolding timeStep
-time-counted s ms payload flash reply t size room short =
-    step-open s (Elapsed ms) payload flash reply room size t
-    ∙ rw (le-leb ms (longestIdle - s .idle) (omega (arith, short)))
-
--- A wait after which it is over 7,000 closes, and the sum stops at 7,001.
-pub time-closed : (s : Session) (ms : ℕ) (payload flash reply : List ℕ) → takes s ≡ true → length flash ≡ s .flash
-    → smallestReply ≤ length reply → longestIdle < s .idle + ms
-    → stepOf s (Elapsed ms) payload flash reply ≡ left (stepped (session (s .flash) 7001 Closed) Nothing) flash reply
-unfolding timeStep
-time-closed s ms payload flash reply t size room long =
-    step-open s (Elapsed ms) payload flash reply room size t
-    ∙ rw (lt-leb ms (longestIdle - s .idle) (omega (arith, long, takes-facts s t .0 .waited)))
-
--- With the wait counted the session still takes events.
-pub counted-takes : (s : Session) (idle : ℕ) → takes s ≡ true → idle ≤ longestIdle → takes (session (s .flash) idle (s .phase)) ≡ true
-counted-takes s idle t short =
-    let f = takes-facts s t in
-    facts-takes (session (s .flash) idle (s .phase)) (record { some = f .0 .some; most = f .0 .most; waited = short }) (f .1)

@@ -10,20 +10,20 @@ use Rattle.kinds.specs.declared.Kind.{Kind}
 use Rattle.kinds.specs.declared.Known.{Known}
 use Rattle.kinds.specs.declared.Known.the-variants.{Is, Unknown}
 use Rattle.pieces.specs.Pieces.{countOf, sizeAt, offsetOf}
-use Rattle.commands.specs.Commands.{rateCommand, parametersCommand, packetCommand, restartCommand, accepted, wrongFirst, wrongSecond, notUnderstood}
-use Rattle.commands.specs.Commands.{largestPacket, rateReply, parametersReply, packetReply, restartReply, notice}
 use Rattle.wire.specs.Frame.{Frame}
-use Rattle.module.specs.Session.{totalOf}
-use Rattle.module.specs.declared.session.Transfer.{Transfer}
-use Rattle.module.specs.declared.session.Pieces.{Pieces}
-use Rattle.module.specs.declared.session.Phase.{Phase}
-use Rattle.module.specs.declared.session.Phase.the-variants.{Closed, Ready, Begun, Loading, Done}
-use Rattle.module.specs.declared.rules.Say.{Say}
-use Rattle.module.specs.declared.rules.Say.the-variants.{Nothing, Rate, Parameters, Packet, Last, Restart}
-use Rattle.module.specs.declared.rules.Put.{Put}
-use Rattle.module.specs.declared.rules.Put.the-variants.{Nowhere, At}
-use Rattle.module.specs.declared.rules.Decision.{Decision}
-use Rattle.module.specs.declared.rules.Numbers.{Numbers}
+use Rattle.commands.specs.Commands.{rateCommand, parametersCommand, packetCommand, restartCommand, accepted, wrongFirst, wrongSecond}
+use Rattle.commands.specs.Commands.{notUnderstood, largestPacket, rateReply, parametersReply, packetReply, restartReply, notice}
+use Rattle.module_model.specs.Phases.{totalOf}
+use Rattle.module_model.specs.declared.phases.Transfer.{Transfer}
+use Rattle.module_model.specs.declared.phases.Pieces.{Pieces}
+use Rattle.module_model.specs.declared.phases.Phase.{Phase}
+use Rattle.module_model.specs.declared.phases.Phase.the-variants.{Closed, Ready, Begun, Loading, Done}
+use Rattle.module_model.specs.declared.rules.Say.{Say}
+use Rattle.module_model.specs.declared.rules.Say.the-variants.{Nothing, Rate, Parameters, Packet, Last, Restart}
+use Rattle.module_model.specs.declared.rules.Put.{Put}
+use Rattle.module_model.specs.declared.rules.Put.the-variants.{Nowhere, At}
+use Rattle.module_model.specs.declared.rules.Decision.{Decision}
+use Rattle.module_model.specs.declared.rules.Numbers.{Numbers}
 
 -- ---- what is said
 
@@ -38,9 +38,12 @@ framesOf (Restart ack) = restartReply ack ∷ []
 
 -- ---- what is put
 
--- The data of a packet stand behind its three numbers.
+-- The data of a packet stand behind its three numbers of two bytes each.
+abbrev pub packetHead : ℕ
+packetHead = 6
+
 abbrev pub dataIn : List ℕ → List ℕ
-dataIn payload = drop 6 payload
+dataIn payload = drop packetHead payload
 
 abbrev pub putOf : Put → List ℕ → List ℕ → List ℕ
 putOf Nowhere payload flash = flash
@@ -62,12 +65,25 @@ rateDecision phase payload =
     cond (eqb (length payload) 1) (unmoved phase (Rate (getD payload 0 0) (rateAck (getD payload 0 0))))
     (unmoved phase (Rate 0 notUnderstood))
 
+-- What the ten bytes of parameters carry: the type, the length, the address.
+abbrev pub parametersLength : ℕ
+parametersLength = 10
+
+abbrev pub typeField : List ℕ → ℕ
+typeField payload = numberAt 2 payload 0
+
+abbrev pub lengthField : List ℕ → ℕ
+lengthField payload = numberAt 4 payload 2
+
+abbrev pub addressField : List ℕ → ℕ
+addressField payload = numberAt 4 payload 6
+
 -- 0x02 of a known type: the address is the type's token (10), the length fits the lent flash (02). Else loading restarts.
 unfoldable pub kindDecision : Phase → Kind → List ℕ → ℕ → Decision
 kindDecision phase kind payload flash =
-    cond (eqb (numberAt 4 payload 6) (tokenOf kind))
-    (cond (fitsFlash kind (numberAt 4 payload 2) flash)
-    (unmoved (Begun (record { kind = kind; length = numberAt 4 payload 2 })) (Parameters accepted))
+    cond (eqb (addressField payload) (tokenOf kind))
+    (cond (fitsFlash kind (lengthField payload) flash)
+    (unmoved (Begun (record { kind = kind; length = lengthField payload })) (Parameters accepted))
     (unmoved phase (Parameters wrongSecond)))
     (unmoved phase (Parameters notUnderstood))
 
@@ -78,7 +94,7 @@ knownDecision phase Unknown payload flash = unmoved phase (Parameters wrongFirst
 -- 0x02, payload 10: type, length, address. In order: payload length (10), type (01), address, length.
 unfoldable pub parametersDecision : Phase → List ℕ → ℕ → Decision
 parametersDecision phase payload flash =
-    cond (eqb (length payload) 10) (knownDecision phase (kindOf (numberAt 2 payload 0)) payload flash)
+    cond (eqb (length payload) parametersLength) (knownDecision phase (kindOf (typeField payload)) payload flash)
     (unmoved phase (Parameters notUnderstood))
 
 -- 0x06, payload 0: ACK 00, closed. Else ACK 10.
@@ -94,7 +110,7 @@ numbersIn payload = record { total = numberAt 2 payload 0; number = numberAt 2 p
 
 -- The payload is 6 + PkSize, and PkSize is 1 to 1,024.
 unfoldable pub wellFormed : ℕ → ℕ → Bool
-wellFormed n size = leb 1 size && (leb size largestPacket && eqb n (6 + size))
+wellFormed n size = leb 1 size && (leb size largestPacket && eqb n (packetHead + size))
 
 -- A packet refused: PkNo 0, ACK 10, nothing put.
 abbrev pub notTaken : Phase → Decision
@@ -122,8 +138,14 @@ unfoldable pub phaseAt : Pieces → ℕ → ℕ → Phase
 phaseAt p number written = cond (eqb number (totalOf p)) (Done p written) (Loading p number written)
 
 -- The State of the notice: 0, or 1 if the count written is not the length.
+abbrev pub stateWhole : ℕ
+stateWhole = 0x00
+
+abbrev pub stateShort : ℕ
+stateShort = 0x01
+
 unfoldable pub stateOf : Pieces → ℕ → ℕ
-stateOf p written = cond (eqb written (p .transfer .length)) 0x00 0x01
+stateOf p written = cond (eqb written (p .transfer .length)) stateWhole stateShort
 
 -- The acknowledgement of a packet, with the notice behind it when the transfer is done.
 abbrev pub sayOf : Phase → ℕ → Say

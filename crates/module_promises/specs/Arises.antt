@@ -1,67 +1,30 @@
 -- M5: every session that an opening and any run of steps leads to passes the test.
-use Prim.Native.Nat.{ℕ, _+_, _-_, _<_}
+use Prim.Native.Nat.{ℕ, _-_}
 use mathlib.Core.Bool.{true, or-true}
 use mathlib.Core.List.{List, [], _∷_}
-use mathlib.Core.Path.{_≡_, refl, ap, _∙_}
+use mathlib.Core.Path.{_≡_, refl}
 use native.Mathlib.Omega.{arith}
-use borrow.Author.Tests.{leb-true, eqb-true, eqb-false}
-use lib.Dec.{eqb, leb}
+use borrow.Author.Tests.{leb-true}
+use lib.Dec.{leb}
 use lib.ListN.{length}
 use Rattle.octets.specs.Octets.{Bytes}
 use Rattle.octets.specs.Choice.{either-way}
 use Rattle.kinds.specs.KindsLaws.{flash-fits}
-use Rattle.pieces.specs.Pieces.{offsetOf, sizeAt}
-use Rattle.pieces.specs.PiecesLaws.{ends-with, size-before, product-step}
-use Rattle.module.specs.Session.{longestIdle, session, openable, openingOf, totalOf, held, takes, closedArises, arises}
-use Rattle.module.specs.SessionLaws.{cut-length, facts-loading, facts-done, takes-facts, facts-takes, sizes-openable, openable-sizes}
-use Rattle.module.specs.Rules.{dataIn, phaseAt}
+use Rattle.module_model.specs.Phases.{longestIdle, closingIdle, openable, held, closedArises}
+use Rattle.module_model.specs.PhasesLaws.{sizes-openable, openable-sizes, closed-at-0, closed-at-limit}
+use Rattle.module_model.specs.Outcomes.{Outcome, stays, restarts, begins, advances, repeats}
+use Rattle.module_model.specs.Leads.{advance-held}
+use Rattle.module.specs.Session.{session, openingOf, takes, arises}
+use Rattle.module.specs.SessionLaws.{takes-facts, facts-takes}
 use Rattle.module.specs.Step.{Left, timeStep}
-use Rattle.module.specs.Runs.{Given, nextOf, afterOf, AllBytes, exchange}
-use Rattle.module.specs.Outcomes.{Belongs, Outcome, stays, restarts, begins, advances, repeats, Step, refuses, sleeps, waits, hears, step-of, outcome-of}
-use Rattle.module.specs.Promises.{opened, ReachedArises}
-use Rattle.module.specs.declared.session.Pieces.{Pieces}
-use Rattle.module.specs.declared.session.Phase.{Phase}
-use Rattle.module.specs.declared.session.Phase.the-variants.{Closed, Ready, Begun}
+use Rattle.module_promises.specs.Runs.{Given, nextOf, afterOf, AllBytes, exchange}
+use Rattle.module_promises.specs.Steps.{Step, refuses, sleeps, waits, hears, step-of, outcome-of}
+use Rattle.module_promises.specs.Promises.{Opening, online, openedBy, ReachedArises}
+use Rattle.module_model.specs.declared.phases.Phase.{Phase}
+use Rattle.module_model.specs.declared.phases.Phase.the-variants.{Closed, Ready, Begun}
+use Rattle.module_model.specs.declared.rules.Decision.{Decision}
 use Rattle.module.specs.declared.session.Session.{Session}
 use Rattle.module.specs.declared.session.Stepped.{Stepped}
-use Rattle.module.specs.declared.rules.Decision.{Decision}
-
--- ---- where an accepted packet leads
-
--- All packets together are as long as the image.
-pub all-written : (p : Pieces) (number : ℕ) (payload : List ℕ) (flash : ℕ) → Belongs p number payload flash → number ≡ totalOf p
-    → offsetOf (p .size) number + length (dataIn payload) ≡ p .transfer .length
-all-written p number payload flash k last =
-    let n = p .transfer .length in
-    let data-size : length (dataIn payload) ≡ sizeAt n (p .size) (totalOf p) = k .size-is ∙ ap (sizeAt n (p .size)) last in
-    ap (λ (i : ℕ). offsetOf (p .size) i + length (dataIn payload)) last
-    ∙ ap (λ (i : ℕ). offsetOf (p .size) (totalOf p) + i) data-size
-    ∙ ends-with n (p .size) (cut-length p (k .cut)) (k .cut .some)
-
--- An accepted packet leads to a phase that could arise.
-pub advance-held : (p : Pieces) (number : ℕ) (payload : List ℕ) (flash : ℕ) → Belongs p number payload flash
-    → held (phaseAt p number (offsetOf (p .size) number + length (dataIn payload))) flash ≡ true
-unfolding phaseAt
-advance-held p number payload flash k =
-    let n = p .transfer .length in
-    either-way (λ (phase : Phase). held phase flash ≡ true) (eqb number (totalOf p))
-    (λ e. facts-done p flash _ (record {
-      fitting = k .fitting;
-      cut = k .cut;
-      all = all-written p number payload flash k (eqb-true number (totalOf p) e);
-    }))
-    (λ e.
-    let before : number < totalOf p =
-    let other : number ≡ totalOf p → ⊥ = eqb-false number (totalOf p) e in omega (arith, k .most, other) in
-    facts-loading p flash number _ (record {
-      fitting = k .fitting;
-      cut = k .cut;
-      one = k .one;
-      before = before;
-      all = omega (arith, k .size-is, size-before n (p .size) number before, product-step number (p .size) (k .one));
-    }))
-
--- ---- each step
 
 -- A session that takes events arises.
 pub takes-arises : (s : Session) → takes s ≡ true → arises s ≡ true
@@ -72,15 +35,6 @@ takes-arises s t = rw t
 pub closed-arises : (flash idle : ℕ) → closedArises flash idle ≡ true → arises (session flash idle Closed) ≡ true
 unfolding arises
 closed-arises flash idle c = rw c (or-true (takes (session flash idle Closed)))
-
--- The sum 0 closes, over any flash; 7,001 does over one that could be opened.
-closed-at-0 : (flash : ℕ) → closedArises flash 0 ≡ true
-unfolding closedArises
-closed-at-0 flash = refl
-
-closed-at-7001 : (flash : ℕ) → openable flash ≡ true → closedArises flash 7001 ≡ true
-unfolding closedArises
-closed-at-7001 flash h = h
 
 -- An open session in which time passes.
 time-arises : (s : Session) (ms : ℕ) → takes s ≡ true → arises (timeStep s ms .session) ≡ true
@@ -94,7 +48,7 @@ time-arises s ms t =
       most = a .most;
       waited = omega (arith, leb-true ms (longestIdle - s .idle) e, a .waited);
     }) (facts .1)))
-    (λ e. closed-arises (s .flash) 7001 (closed-at-7001 (s .flash) (sizes-openable (s .flash) (a .some) (a .most))))
+    (λ e. closed-arises (s .flash) closingIdle (closed-at-limit (s .flash) (sizes-openable (s .flash) (a .some) (a .most))))
 
 -- An open session whose sum starts anew.
 anew-arises : (s : Session) (phase : Phase) → takes s ≡ true → held phase (s .flash) ≡ true → arises (session (s .flash) 0 phase) ≡ true
@@ -124,9 +78,9 @@ step-arises s g a bytes = go (exchange s g .left) (step-of s g)
     go x (hears t size command count ev e) = rw e (frame-arises s command _ (g .flash) _ t size (outcome-of s g bytes t size command))
 
 -- An opening.
-opening-arises : (flash : List ℕ) → arises (opened flash) ≡ true
+pub opening-arises : (o : Opening) → arises (openedBy o) ≡ true
 unfolding openingOf
-opening-arises flash =
+opening-arises (online flash) =
     either-way (λ (r : Stepped). arises (r .session) ≡ true) (openable (length flash))
     (λ o. takes-arises _ (ready-takes (length flash) o))
     (λ o. closed-arises (length flash) 0 (closed-at-0 (length flash)))
@@ -143,4 +97,4 @@ run-arises s [] a bytes = a
 run-arises s (g ∷ gs) a bytes = run-arises (nextOf s g) gs (step-arises s g a (bytes .0)) (bytes .1)
 
 pub reached-arises : ReachedArises
-reached-arises flash gs bytes = run-arises (opened flash) gs (opening-arises flash) bytes
+reached-arises o gs bytes = run-arises (openedBy o) gs (opening-arises o) bytes

@@ -1,39 +1,40 @@
 -- M3: from any open session a clean transfer that fits ends in success.
-use Prim.Native.Nat.{ℕ, zero, suc, _+_, _*_, _-_, _≤_, _<_}
+use Prim.Native.Nat.{ℕ, zero, suc, _+_, _-_, _≤_, _<_}
 use mathlib.Core.Bool.{true}
 use mathlib.Core.List.{List, [], _∷_, _++_, append-assoc, List·Memᴰ·head, List·Memᴰ·tail}
 use mathlib.Core.Path.{_≡_, refl, sym, ap, _∙_}
 use native.Mathlib.Decide.{decLe, decLt}
 use native.Mathlib.Nat.{zero-mul}
 use native.Mathlib.Omega.{arith}
-use borrow.Author.Tests.{lt-ltb, eq-eqb}
+use borrow.Author.Tests.{lt-ltb}
 use lib.ListN.{length, take}
-use lib.Seq.{take-all, take-length, length-take-le}
+use lib.Seq.{take-all, take-length}
 use Rattle.octets.specs.Octets.{partOf, laid}
-use Rattle.octets.specs.OctetsLaws.{laid-nothing, laid-length, laid-next}
 use Rattle.kinds.specs.Kinds.{baseOf}
 use Rattle.kinds.specs.KindsLaws.{FitsFlash}
 use Rattle.kinds.specs.declared.Kind.{Kind}
-use Rattle.pieces.specs.Pieces.{countOf, sizeAt, pieceOf}
-use Rattle.pieces.specs.PiecesLaws.{within, take-more, take-whole, count-whole, count-only}
+use Rattle.pieces.specs.Pieces.{countOf}
+use Rattle.pieces.specs.PiecesLaws.{within, count-whole, count-only}
 use Rattle.commands.specs.Commands.{packetCommand, parametersCommand, accepted, packetReply, notice, parametersFor, packetFor}
-use Rattle.module.specs.Session.{largestFlash, longestIdle, totalOf, session, takes}
-use Rattle.module.specs.SessionLaws.{Cut, cut-length, cut-total, takes-facts}
-use Rattle.module.specs.Rules.{framesOf, stateOf}
-use Rattle.module.specs.Rules.{placeOf, taken}
+use Rattle.module_model.specs.Phases.{largestFlash, longestIdle, totalOf}
+use Rattle.module_model.specs.PhasesLaws.{cut-total}
+use Rattle.module_model.specs.Rules.{taken}
+use Rattle.module_model.specs.Due.{transferFor, parameters-accepted, Carries, waiting, waiting-none, writtenWith, packet-taken}
+use Rattle.module_model.specs.Due.{taken-waits}
+use Rattle.module_model.specs.Laid.{taken-laid, last-says, flashAfter, flash-long, flash-none, flash-whole}
+use Rattle.module.specs.Session.{session, takes}
+use Rattle.module.specs.SessionLaws.{takes-facts}
 use Rattle.module.specs.Step.{Left, performed, stepOf, smallestReply}
-use Rattle.module.specs.Runs.{Exchange, exchange, given, Offer, carried, carriedAfter, heardIn, sentBy}
-use Rattle.module.specs.RunsLaws.{heard-performed, carried-append}
-use Rattle.module.specs.Promises.{Pause, Frames, PacketFirst, PacketsFrom, CleanTransfer, Fits}
-use Rattle.module.specs.Promises.{EndsInSuccess, CleanSucceeds}
-use Rattle.module.specs.Forward.{transferFor, parameters-accepted, Carries, piece-facts, data-read, waiting, waiting-none}
-use Rattle.module.specs.Forward.{waiting-takes, writtenWith, packet-taken, taken-waits, taken-done, frame-taken, time-counted}
-use Rattle.module.specs.Forward.{counted-takes}
-use Rattle.module.specs.declared.session.Pieces.{Pieces}
-use Rattle.module.specs.declared.session.Phase.the-variants.{Begun}
+use Rattle.module_promises.specs.Runs.{Exchange, exchange, given, Offer, carried, carriedAfter, heardIn, sentBy}
+use Rattle.module_promises.specs.RunsLaws.{heard-performed, carried-append}
+use Rattle.module_promises.specs.Promises.{Pause, Frames, PacketFirst, PacketsFrom, CleanTransfer, Fits, EndsInSuccess}
+use Rattle.module_promises.specs.Promises.{CleanSucceeds}
+use Rattle.module_promises.specs.Forward.{waiting-takes, frame-taken, time-counted, counted-takes}
+use Rattle.module_model.specs.declared.phases.Pieces.{Pieces}
+use Rattle.module_model.specs.declared.phases.Phase.the-variants.{Begun}
+use Rattle.module_model.specs.declared.events.Event.the-variants.{Elapsed}
+use Rattle.module_model.specs.declared.rules.Decision.{Decision}
 use Rattle.module.specs.declared.session.Session.{Session}
-use Rattle.module.specs.declared.session.Event.the-variants.{Elapsed}
-use Rattle.module.specs.declared.rules.Decision.{Decision}
 
 -- ---- pauses
 
@@ -104,60 +105,6 @@ ends-after s flash os ps total goal w e =
 
 -- ---- packets
 
--- The flash after so many packets.
-abbrev flashAfter : Pieces → List ℕ → List ℕ → ℕ → List ℕ
-flashAfter p image flash n = laid flash (baseOf (p .transfer .kind)) (take (n * p .size) image)
-
--- The piece that is due is not empty and ends within the image.
-due-within : (p : Pieces) (n : ℕ) → Cut p → n < totalOf p
-    → (1 ≤ sizeAt (p .transfer .length) (p .size) (n + 1)) × (writtenWith p n ≤ p .transfer .length)
-due-within p n c less =
-    let same : n + 1 - 1 ≡ n = omega arith in
-    let w = within (p .transfer .length) (p .size) (n + 1) (cut-length p c) (c .some) (omega arith) (omega (arith, less)) in
-    (w .some, rw same at (w .inside))
-
--- The packets before it hold less than the image.
-due-short : (p : Pieces) (n : ℕ) → Cut p → n < totalOf p → n * p .size < p .transfer .length
-due-short p n c less = let due = due-within p n c less in omega (arith, due .0, due .1)
-
--- They are that many bytes, and leave the flash as long as it was.
-front-long : (p : Pieces) (image flash : List ℕ) (n : ℕ) → Carries p image (length flash) → n < totalOf p
-    → length (take (n * p .size) image) ≡ n * p .size
-front-long p image flash n c less = length-take-le (n * p .size) image (omega (arith, due-short p n (c .cut) less, c .whole))
-
-flash-long : (p : Pieces) (image flash : List ℕ) (n : ℕ) → Carries p image (length flash) → n < totalOf p
-    → length (flashAfter p image flash n) ≡ length flash
-flash-long p image flash n c less =
-    laid-length flash (baseOf (p .transfer .kind)) (take (n * p .size) image)
-    (omega (arith, front-long p image flash n c less, due-short p n (c .cut) less, c .fitting .inside))
-
--- Before packet 1 the flash is as lent, after packet Total it holds the image.
-flash-none : (p : Pieces) (image flash : List ℕ) → flashAfter p image flash 0 ≡ flash
-flash-none p image flash = rw (zero-mul (p .size)) (laid-nothing flash (baseOf (p .transfer .kind)))
-
-flash-whole : (p : Pieces) (image flash : List ℕ) → Carries p image (length flash)
-    → flashAfter p image flash (totalOf p) ≡ laid flash (baseOf (p .transfer .kind)) image
-flash-whole p image flash c =
-    let some : 1 ≤ length image = omega (arith, c .whole, cut-length p (c .cut)) in
-    ap (laid flash (baseOf (p .transfer .kind))) (rw (← c .whole) (take-whole image (p .size) some (c .cut .some)))
-
--- The data of the packet that is due are put behind those before it.
-flash-next : (p : Pieces) (image flash : List ℕ) (n : ℕ) → Carries p image (length flash) → n < totalOf p
-    → laid (flashAfter p image flash n) (placeOf p (n + 1)) (pieceOf image (p .size) (n + 1)) ≡ flashAfter p image flash (n + 1)
-flash-next p image flash n c less =
-    let base = baseOf (p .transfer .kind) in
-    let front = take (n * p .size) image in
-    let piece = pieceOf image (p .size) (n + 1) in
-    let same : n + 1 - 1 ≡ n = omega arith in
-    let long = front-long p image flash n c less in
-    let f = piece-facts p image (length flash) (n + 1) c (omega arith) (omega (arith, less)) in
-    let room : base + length front + length piece ≤ length flash =
-    omega (arith, long, f .long, due-within p n (c .cut) less .1, c .fitting .inside) in
-    let place : placeOf p (n + 1) ≡ base + length front = rw (same, long) in
-    let more : front ++ piece ≡ take ((n + 1) * p .size) image =
-    rw same (rw same at (take-more image (p .size) (n + 1) (omega arith))) in
-    rw place (laid-next flash base front piece room ∙ ap (laid flash base) more)
-
 -- What the packet that is due leaves.
 abbrev leftBy : Pieces → List ℕ → List ℕ → ℕ → ℕ → Offer → Left
 leftBy p image flash n idle o =
@@ -178,14 +125,7 @@ packet-leaves p image flash n idle o c less t f =
 -- The flash that it leaves.
 leaves-flash : (p : Pieces) (image flash : List ℕ) (n idle : ℕ) (o : Offer) → Carries p image (length flash) → n < totalOf p
     → leftBy p image flash n idle o .flash ≡ flashAfter p image flash (n + 1)
-leaves-flash p image flash n idle o c less = rw (data-read image (p .size) (n + 1)) (flash-next p image flash n c less)
-
--- The last packet is acknowledged, and the notice of State 0 follows.
-last-says : (p : Pieces) (n : ℕ) → Cut p → n + 1 ≡ totalOf p
-    → framesOf (taken p (n + 1) (writtenWith p n) .say) ≡ packetReply (totalOf p) accepted ∷ notice 0 ∷ []
-unfolding stateOf
-last-says p n c last =
-    rw (taken-done p n c last, eq-eqb (p .transfer .length) (p .transfer .length) refl, last)
+leaves-flash p image flash n idle o c less = taken-laid p image flash n c less
 
 -- Success after so many packets: how the run from there on ends.
 abbrev Succeeds : Pieces → List ℕ → List ℕ → ℕ → ℕ → List Offer → Type 0
@@ -289,19 +229,17 @@ cut-succeeds s flash kind image size os t long fits within-image h =
     let p : Pieces = record { transfer = transferFor kind image; size = size } in
     let total = countOf (length image) size in
     let goal = laid flash (baseOf kind) image in
-    let fitting : FitsFlash kind (length image) (length flash) =
-    record { some = fits .some; short = fits .short; inside = fits .inside } in
     let c : Carries p image (length flash) =
     record {
       whole = refl;
-      fitting = fitting;
+      fitting = fits .fitting;
       cut = record { some = fits .size-some; small = fits .size-most; within = within-image; carried = fits .total-most };
     } in
     let most : length flash ≤ largestFlash = omega (arith, long, takes-facts s t .0 .most) in
     let w = pause-waits s flash (s .idle) (h .pause) t long (omega arith) (h .paused) in
     let now = session (s .flash) (w .idle) (s .phase) in
     let x = exchange now (given flash (h .parameters)) in
-    let leaves = parameters-leave now flash kind image (h .parameters) (w .takes-on) long fitting (h .declares) in
+    let leaves = parameters-leave now flash kind image (h .parameters) (w .takes-on) long (fits .fitting) (h .declares) in
     let some : 1 ≤ total = cut-total p (c .cut) in
     let counts : total ≡ suc (total - 1) = omega (arith, some) in
     let sends : PacketsFrom image size (suc (total - 1)) 1 (h .packets) = rw counts at (h .sends) in
@@ -364,13 +302,11 @@ clean-succeeds s flash kind image size os t long fits h = go (decLe size (length
         let more : n < size = omega (arith, longer) in
         let whole : Fits kind image n flash =
         record {
-          some = fits .some;
-          short = fits .short;
-          inside = fits .inside;
-          size-some = fits .some;
+          fitting = fits .fitting;
+          size-some = fits .fitting .some;
           size-most = omega (arith, more, fits .size-most);
-          total-most = rw (count-whole n (fits .some)) (omega arith);
+          total-most = rw (count-whole n (fits .fitting .some)) (omega arith);
         } in
-        let single : countOf n size ≡ countOf n n = one-packet image size (fits .some) more ∙ sym (count-whole n (fits .some)) in
+        let single : countOf n size ≡ countOf n n = one-packet image size (fits .fitting .some) more ∙ sym (count-whole n (fits .fitting .some)) in
         rw single
-        (cut-succeeds s flash kind image n os t long whole (omega arith) (clean-whole (s .idle) kind image size os (fits .some) more h))
+        (cut-succeeds s flash kind image n os t long whole (omega arith) (clean-whole (s .idle) kind image size os (fits .fitting .some) more h))

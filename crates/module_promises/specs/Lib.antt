@@ -1,0 +1,17 @@
+-- The runs that the promises speak of, the promises, and below them their proofs: what a step can be (Steps, Forward), what is heard
+-- (Said), and a file for each promise; two names spelled out (Readings); and wrong steps that break a promise (Wrong).
+pub mod Runs
+pub mod Promises
+pub mod RunsLaws
+pub mod Steps
+pub mod Forward
+pub mod Idle
+pub mod Arises
+pub mod Said
+pub mod Track
+pub mod Success
+pub mod Flash
+pub mod Reach
+pub mod Clean
+pub mod Readings
+pub mod Wrong
