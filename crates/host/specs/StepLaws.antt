@@ -13,25 +13,17 @@ use Rattle.refusals.specs.Refusals.{noRoom, wrongLength}
 use Rattle.refusals.specs.Written.{Out, refused, written, countOf, refusalOf}
 use Rattle.refusals.specs.declared.Written.{Written}
 use Rattle.refusals.specs.declared.Written.the-variants as writes
-use Rattle.stages.specs.StagesLaws.{Small}
-use Rattle.host.specs.Session.{stepped, firstStage, waitFits, arises}
-use Rattle.host.specs.Messages.{sentOf}
+use Rattle.host.specs.Session.{stepped, arises}
+use Rattle.host_model.specs.Waits.{waitFits}
+use Rattle.host_model.specs.Messages.{sentOf}
 use Rattle.host.specs.Step.{left, sends, phaseStep, stepOf}
-use Rattle.stages.specs.declared.plan.Rate.{Rate}
-use Rattle.stages.specs.declared.plan.Start.{Start}
-use Rattle.stages.specs.declared.plan.Start.the-variants.{WithText, AtOnce}
-use Rattle.host.specs.declared.session.Wait.{Wait}
-use Rattle.host.specs.declared.session.Phase.{Phase}
-use Rattle.host.specs.declared.session.Phase.the-variants.{Waiting}
+use Rattle.host_model.specs.declared.waits.Wait.{Wait}
+use Rattle.host_model.specs.declared.waits.Phase.{Phase}
+use Rattle.host_model.specs.declared.waits.Phase.the-variants.{Waiting}
 use Rattle.host.specs.declared.session.Session.{Session}
-use Rattle.host.specs.declared.session.Event.{Event}
-use Rattle.host.specs.declared.session.Answer.the-variants.{Nothing, Refused}
+use Rattle.host_model.specs.declared.events.Event.{Event}
+use Rattle.host_model.specs.declared.events.Answer.the-variants.{Nothing, Refused}
 use Rattle.host.specs.declared.session.Stepped.{Stepped}
-
--- A session begins at a small stage.
-pub first-small : (start : Start) (rate : Rate) → Small (firstStage start rate)
-first-small WithText rate = tt
-first-small AtOnce rate = tt
 
 -- ---- a message sent from a session
 

@@ -1,8 +1,8 @@
 // Which numbers of a session could arise from an opening.
 ghost use mathlib.Core.Path.{_≡_};
-ghost use Rattle.host.specs.Session.{waitFits};
-use crate::session::Wait;
+ghost use Rattle.host_model.specs.Waits.{waitFits};
 use crate::session::limit;
+use host_model::Wait;
 
 // Whether a waiting session over an image of this length could arise.
 pub(crate) fn wait_fits(image: usize, wait: Wait) -> bool

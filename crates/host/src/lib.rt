@@ -3,11 +3,11 @@ mod arises;
 mod messages;
 mod session;
 
-pub use session::Answer;
-pub use session::Event;
-pub use session::LineRate;
-pub use session::Phase;
-pub use session::Progress;
+pub use host_model::Answer;
+pub use host_model::Event;
+pub use host_model::LineRate;
+pub use host_model::Phase;
+pub use host_model::Progress;
+pub use host_model::Wait;
 pub use session::Session;
 pub use session::Stepped;
-pub use session::Wait;

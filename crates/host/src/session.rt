@@ -4,25 +4,20 @@ ghost use mathlib.Core.Bool.{true};
 ghost use Prim.Native.Nat.{_<_};
 ghost use lib.ListN.{length};
 ghost use Rattle.pieces.specs.Pieces.{countOf};
-ghost use Rattle.host.specs.Session.{limitOf, stepped, firstStage, progressOf, stageProgress, phaseProgress, stageRate, phaseRate, phaseRepeats, waitFits, arises};
-ghost use Rattle.host.specs.Step.{
-  left,
-  waitingOf,
-  endedOf,
-  enters,
-  resends,
-  fails,
-  moved,
-  timeStep,
-  eventStep,
-  stepOf,
-  planOpening,
-  openingOf,
-};
-ghost use Rattle.stages.specs.StagesLaws.{Small, SmallMove};
+ghost use Rattle.host_model.specs.Waits.{limitOf, firstStage, waitFits};
+ghost use Rattle.host.specs.Session.{stepped, arises};
+ghost use Rattle.host_model.specs.Views.{progressOf, stageProgress, phaseProgress, stageRate, phaseRate, phaseRepeats};
+ghost use Rattle.host.specs.Step.{left, waitingOf, endedOf, enters, resends, fails, moved, timeStep, eventStep, stepOf, planOpening, openingOf};
+ghost use Rattle.host_model.specs.StagesLaws.{Small, SmallMove};
 use crate::arises::wait_fits;
 use crate::messages::send;
 use crate::messages::send_restart;
+use host_model::Answer;
+use host_model::Event;
+use host_model::LineRate;
+use host_model::Phase;
+use host_model::Progress;
+use host_model::Wait;
 use kinds::Known;
 use refusals::Written;
 use stages::Move;
@@ -34,63 +29,15 @@ use stages::Start;
 use stages::frame_move;
 use stages::line_move;
 
-// What a session waits for. Waited is the time since the last sending or fitting answer; repeats is how often the message under way
-// was resent.
-pub struct Wait {
-    pub plan: Plan,
-    pub stage: Stage,
-    pub waited: u32,
-    pub repeats: u32,
-}
-
-pub enum Phase {
-    Ended,
-    Waiting(Wait),
-}
-
 // The length of the image at the opening, and how far the session is.
 pub struct Session {
     pub image: usize,
     pub phase: Phase,
 }
 
-// A frame has arrived, with the first count bytes of the slice lent beside it as its payload; or a line of text, its CR LF with it, in
-// the first count bytes; or milliseconds have passed.
-pub enum Event {
-    Frame { command: u8, count: usize },
-    Line { count: usize },
-    Elapsed(u32),
-}
-
-// Nothing to send; so many bytes to send at the front of the output; the load is done; refused with a number; or the module refused
-// (21) or reports a failure (22): its byte passed on, and so many bytes of the restart frame to send.
-pub enum Answer {
-    Nothing,
-    Sent(usize),
-    Done,
-    Refused(u8),
-    Failed {
-        number: u8,
-        passed: u8,
-        count: usize,
-    },
-}
-
 pub struct Stepped {
     pub session: Session,
     pub answer: Answer,
-}
-
-// Packets accepted, and packets in all; none before the piece size is set.
-pub struct Progress {
-    pub accepted: usize,
-    pub total: usize,
-}
-
-// The rate that the line should have now.
-pub enum LineRate {
-    AsItWas,
-    Agreed(Rate),
 }
 
 impl Session {

@@ -3,7 +3,7 @@ use mathlib.Core.Path.{sym, _∙_}
 use mathlib.Core.Bool.{false≢true}
 use native.Mathlib.Omega.{arith}
 use Rattle.octets.specs.Choice.{passed, failed}
-use Rattle.host.specs.SessionLaws.{wait-no, wait-stage}
+use Rattle.host_model.specs.WaitsLaws.{wait-no, wait-stage}
 use borrow.Author.Needs.{needs}
 use Rattle.host.proofs.arises.wait_fits.Statement.{statement}
 use Rattle.host.proofs.arises.wait_fits.Tie as tie

@@ -1,7 +1,7 @@
 -- `all`: every piece is accepted.
 use borrow.Author.Needs.{needs}
 use mathlib.Core.Path.{ap, _∙_}
-use Rattle.host.specs.Session.{progressOf}
+use Rattle.host_model.specs.Views.{progressOf}
 use Rattle.host.proofs.session.all.Statement.{statement}
 use Rattle.host.proofs.session.all.Tie as tie
 

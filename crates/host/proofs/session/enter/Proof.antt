@@ -1,10 +1,10 @@
 -- `enter`: the message is sent and the stage entered, or all stays.
 use borrow.Author.Needs.{needs}
 use mathlib.Core.Path.{ap, _∙_}
-use Rattle.host.specs.declared.session.Answer.the-variants.{Sent}
+use Rattle.host_model.specs.declared.events.Answer.the-variants.{Sent}
 use lib.ListN.{length}
 use Rattle.host.specs.Session.{stepped}
-use Rattle.host.specs.Messages.{messageOf}
+use Rattle.host_model.specs.Messages.{messageOf}
 use Rattle.host.specs.Step.{left, waitingOf}
 use Rattle.host.specs.StepLaws.{sends-counted, sends-refused}
 use Rattle.host.proofs.session.enter.Statement.{statement}

@@ -3,7 +3,7 @@ use borrow.Author.Needs.{needs}
 use mathlib.Core.Path.{ap, _∙_}
 use Rattle.wire.specs.Frame.{wireOf}
 use Rattle.commands.specs.Commands.{restartFrame}
-use Rattle.host.specs.declared.session.Answer.the-variants.{Failed}
+use Rattle.host_model.specs.declared.events.Answer.the-variants.{Failed}
 use Rattle.host.specs.Session.{stepped}
 use Rattle.host.specs.Step.{left, endedOf}
 use Rattle.host.specs.StepLaws.{sends-counted, sends-refused}

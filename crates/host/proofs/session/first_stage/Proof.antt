@@ -1,7 +1,7 @@
 -- `first_stage`: the start text, or the first rate.
 use borrow.Author.Needs.{needs}
 use mathlib.Core.Path.{sym, ap}
-use Rattle.host.specs.Session.{firstStage}
+use Rattle.host_model.specs.Waits.{firstStage}
 use Rattle.host.proofs.session.first_stage.Statement.{statement}
 use Rattle.host.proofs.session.first_stage.Tie as tie
 

@@ -1,13 +1,13 @@
 -- `open_plan`: 8, else the first stage is entered.
 use borrow.Author.Needs.{needs}
 use mathlib.Core.Path.{sym, ap, ap₂, _∙_}
-use Rattle.host.specs.declared.session.Answer.the-variants.{Refused}
+use Rattle.host_model.specs.declared.events.Answer.the-variants.{Refused}
 use Rattle.octets.specs.Choice.{cond-yes, cond-no, passed, failed}
 use Rattle.refusals.specs.Refusals.{wrongImageLength}
 use Rattle.host.specs.Session.{stepped}
 use Rattle.host.specs.Step.{left, enters, planOpening}
-use Rattle.stages.specs.StagesLaws.{small-same}
-use Rattle.host.specs.StepLaws.{first-small}
+use Rattle.host_model.specs.StagesLaws.{small-same}
+use Rattle.host_model.specs.WaitsLaws.{first-small}
 use Rattle.host.proofs.session.open_plan.Statement.{statement}
 use Rattle.host.proofs.session.open_plan.Tie as tie
 

@@ -3,12 +3,13 @@ use borrow.Author.Needs.{needs}
 use mathlib.Core.Path.{sym, ap, _∙_}
 use Prim.Native.Nat.{_+_}
 use borrow.Author.Tests.{lt-ltb, le-ltb}
-use Rattle.host.specs.declared.session.Answer.the-variants.{Refused, Sent}
+use Rattle.host_model.specs.declared.events.Answer.the-variants.{Refused, Sent}
 use lib.ListN.{length}
 use Rattle.octets.specs.Choice.{cond-yes, cond-no}
 use Rattle.refusals.specs.Refusals.{noAnswer}
-use Rattle.host.specs.Session.{stepped, mostRepeats}
-use Rattle.host.specs.Messages.{messageOf}
+use Rattle.host.specs.Session.{stepped}
+use Rattle.host_model.specs.Waits.{mostRepeats}
+use Rattle.host_model.specs.Messages.{messageOf}
 use Rattle.host.specs.Step.{left, waitingOf, resends}
 use Rattle.host.specs.StepLaws.{sends-counted, sends-refused}
 use Rattle.host.proofs.session.resend.Statement.{statement}

@@ -1,7 +1,7 @@
 -- `stage_progress`: counted from the packets on.
 use borrow.Author.Needs.{needs}
 use mathlib.Core.Path.{sym, ap, ap₂, _∙_}
-use Rattle.host.specs.Session.{progressOf, stageProgress}
+use Rattle.host_model.specs.Views.{progressOf, stageProgress}
 use Rattle.host.proofs.session.stage_progress.Statement.{statement}
 use Rattle.host.proofs.session.stage_progress.Tie as tie
 

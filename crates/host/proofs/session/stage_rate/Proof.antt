@@ -1,7 +1,7 @@
 -- `stage_rate`: the agreed rate from the parameters on.
 use borrow.Author.Needs.{needs}
 use mathlib.Core.Path.{sym, ap}
-use Rattle.host.specs.Session.{stageRate}
+use Rattle.host_model.specs.Views.{stageRate}
 use Rattle.host.proofs.session.stage_rate.Statement.{statement}
 use Rattle.host.proofs.session.stage_rate.Tie as tie
 

@@ -1,11 +1,11 @@
 -- `Session::moves`: each move by its own function.
 use borrow.Author.Needs.{needs}
 use mathlib.Core.Path.{sym, ap, _∙_}
-use Rattle.host.specs.declared.session.Answer.the-variants.{Nothing, Done, Refused}
+use Rattle.host_model.specs.declared.events.Answer.the-variants.{Nothing, Done, Refused}
 use Rattle.refusals.specs.Refusals.{wrongPieces}
 use Rattle.host.specs.Session.{stepped}
 use Rattle.host.specs.Step.{left, moved}
-use Rattle.stages.specs.StagesLaws.{small-move-same}
+use Rattle.host_model.specs.StagesLaws.{small-move-same}
 use Rattle.host.proofs.session.Session.moves.Statement.{statement}
 use Rattle.host.proofs.session.Session.moves.Tie as tie
 

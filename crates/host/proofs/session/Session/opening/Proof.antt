@@ -1,7 +1,7 @@
 -- `Session::opening`: 6, else the opening of the plan.
 use borrow.Author.Needs.{needs}
 use mathlib.Core.Path.{sym, ap, _∙_}
-use Rattle.host.specs.declared.session.Answer.the-variants.{Refused}
+use Rattle.host_model.specs.declared.events.Answer.the-variants.{Refused}
 use Rattle.refusals.specs.Refusals.{wrongType}
 use Rattle.host.specs.Session.{stepped}
 use Rattle.host.specs.Step.{Wishes, left, knownOpening, openingOf}

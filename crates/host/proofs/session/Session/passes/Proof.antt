@@ -3,7 +3,7 @@ use borrow.Author.Needs.{needs}
 use mathlib.Core.Path.{sym, ap, _∙_}
 use Prim.Native.Nat.{_-_}
 use borrow.Author.Tests.{lt-ltb, le-ltb}
-use Rattle.host.specs.declared.session.Answer.the-variants.{Nothing}
+use Rattle.host_model.specs.declared.events.Answer.the-variants.{Nothing}
 use lib.Dec.{ltb}
 use Rattle.octets.specs.Choice.{cond-yes, cond-no}
 use Rattle.host.specs.Session.{stepped}

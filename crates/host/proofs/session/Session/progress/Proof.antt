@@ -1,7 +1,7 @@
 -- `Session::progress`: none once ended, else that of the stage.
 use borrow.Author.Needs.{needs}
 use mathlib.Core.Path.{sym, ap, _∙_}
-use Rattle.host.specs.Session.{phaseProgress}
+use Rattle.host_model.specs.Views.{phaseProgress}
 use Rattle.host.proofs.session.Session.progress.Statement.{statement}
 use Rattle.host.proofs.session.Session.progress.Tie as tie
 

@@ -3,10 +3,10 @@ use borrow.Author.Needs.{needs}
 use mathlib.Core.Path.{sym, ap, _∙_}
 use lib.ListN.{length}
 use Rattle.octets.specs.Octets.{partOf}
-use Rattle.stages.specs.Answers.{frameMove, lineMove}
+use Rattle.host_model.specs.Answers.{frameMove, lineMove}
 use Rattle.host.specs.Step.{moved, eventStep}
-use Rattle.stages.specs.StagesLaws.{small-move-same}
-use Rattle.host.specs.SessionLaws.{wait-small, wait-short, wait-frame, wait-line}
+use Rattle.host_model.specs.StagesLaws.{small-move-same}
+use Rattle.host_model.specs.WaitsLaws.{wait-small, wait-short, wait-frame, wait-line}
 use Rattle.host.proofs.session.Session.takes.Statement.{statement}
 use Rattle.host.proofs.session.Session.takes.Tie as tie
 

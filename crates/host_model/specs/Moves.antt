@@ -13,21 +13,21 @@ use Rattle.pieces.specs.Pieces.{countOf}
 use Rattle.pieces.specs.PiecesLaws.{count-some}
 use Rattle.commands.specs.Commands.{rateCommand, parametersCommand, packetCommand, restartCommand, noticeCommand}
 use Rattle.commands.specs.Commands.{largestPacket, largestTotal, startAnswer}
-use Rattle.stages.specs.Stages.{numberOfRate, rateFits, stageFits}
-use Rattle.stages.specs.StagesLaws.{SmallMove, stage-small}
-use Rattle.stages.specs.StagesLaws.{facts-rate, rate-facts, facts-sending, sending-facts, SendingOf, facts-sent}
-use Rattle.stages.specs.Answers.{lowerMove, rateMove, pieceSize, sizeMove, parametersMove, acceptedMove, sameMove, packetMove}
-use Rattle.stages.specs.Answers.{noticeMove, frameMove, textMove, lineMove}
-use Rattle.stages.specs.AnswersLaws.{ack-any, where-any, piece-packet, piece-wish}
-use Rattle.stages.specs.declared.plan.Rate.{Rate}
-use Rattle.stages.specs.declared.plan.Rate.the-variants.{R9600, R19200, R38400, R57600, R115200}
-use Rattle.stages.specs.declared.plan.Same.{Same}
-use Rattle.stages.specs.declared.plan.Same.the-variants.{GoOn, Stop}
-use Rattle.stages.specs.declared.plan.Plan.{Plan}
-use Rattle.stages.specs.declared.plan.Stage.{Stage}
-use Rattle.stages.specs.declared.plan.Stage.the-variants.{Text, Asking, Declaring, Sending, Noticing, Restarting}
-use Rattle.stages.specs.declared.answers.Move.{Move}
-use Rattle.stages.specs.declared.answers.Move.the-variants.{Stay, Enter, Await, Resend, Refuse, TooMany, Finish}
+use Rattle.host_model.specs.Stages.{numberOfRate, rateFits, stageFits}
+use Rattle.host_model.specs.StagesLaws.{SmallMove, stage-small}
+use Rattle.host_model.specs.StagesLaws.{facts-rate, rate-facts, facts-sending, sending-facts, SendingOf, facts-sent}
+use Rattle.host_model.specs.Answers.{lowerMove, rateMove, pieceSize, sizeMove, parametersMove, acceptedMove, sameMove, packetMove}
+use Rattle.host_model.specs.Answers.{noticeMove, frameMove, textMove, lineMove}
+use Rattle.host_model.specs.AnswersLaws.{ack-any, where-any, piece-packet, piece-wish}
+use Rattle.host_model.specs.declared.plan.Rate.{Rate}
+use Rattle.host_model.specs.declared.plan.Rate.the-variants.{R9600, R19200, R38400, R57600, R115200}
+use Rattle.host_model.specs.declared.plan.Same.{Same}
+use Rattle.host_model.specs.declared.plan.Same.the-variants.{GoOn, Stop}
+use Rattle.host_model.specs.declared.plan.Plan.{Plan}
+use Rattle.host_model.specs.declared.plan.Stage.{Stage}
+use Rattle.host_model.specs.declared.plan.Stage.the-variants.{Text, Asking, Declaring, Sending, Noticing, Restarting}
+use Rattle.host_model.specs.declared.answers.Move.{Move}
+use Rattle.host_model.specs.declared.answers.Move.the-variants.{Stay, Enter, Await, Resend, Refuse, TooMany, Finish}
 
 -- A move leads only to a stage that fits.
 abbrev pub FitsMove : Plan → ℕ → Move → Type 0

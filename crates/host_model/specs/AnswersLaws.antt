@@ -13,16 +13,16 @@ use Rattle.octets.specs.Octets.{sameBytes}
 use Rattle.refusals.specs.Refusals.{moduleRefused, badNotice}
 use Rattle.pieces.specs.Pieces.{countOf}
 use Rattle.commands.specs.Commands.{accepted, wrongFirst, wrongSecond, notUnderstood, largestPacket, largestTotal}
-use Rattle.stages.specs.Stages.{numberOfRate}
+use Rattle.host_model.specs.Stages.{numberOfRate}
 use Rattle.commands.specs.Commands.{startAnswer}
-use Rattle.stages.specs.Answers.{byAck, lowerMove, rateMove, pieceSize, sizeMove, parametersMove, acceptedMove, sameMove, packetMove}
-use Rattle.stages.specs.Answers.{noticeMove, fitting, whereFitting, textMove}
-use Rattle.stages.specs.declared.plan.Rate.{Rate}
-use Rattle.stages.specs.declared.plan.Same.the-variants as same
-use Rattle.stages.specs.declared.plan.Plan.{Plan}
-use Rattle.stages.specs.declared.plan.Stage.the-variants.{Asking, Declaring, Sending, Noticing, Restarting}
-use Rattle.stages.specs.declared.answers.Move.{Move}
-use Rattle.stages.specs.declared.answers.Move.the-variants.{Stay, Enter, Await, Resend, Refuse, TooMany}
+use Rattle.host_model.specs.Answers.{byAck, lowerMove, rateMove, pieceSize, sizeMove, parametersMove, acceptedMove, sameMove, packetMove}
+use Rattle.host_model.specs.Answers.{noticeMove, fitting, whereFitting, textMove}
+use Rattle.host_model.specs.declared.plan.Rate.{Rate}
+use Rattle.host_model.specs.declared.plan.Same.the-variants as same
+use Rattle.host_model.specs.declared.plan.Plan.{Plan}
+use Rattle.host_model.specs.declared.plan.Stage.the-variants.{Asking, Declaring, Sending, Noticing, Restarting}
+use Rattle.host_model.specs.declared.answers.Move.{Move}
+use Rattle.host_model.specs.declared.answers.Move.the-variants.{Stay, Enter, Await, Resend, Refuse, TooMany}
 
 -- ---- the ACK
 

@@ -19,42 +19,43 @@ use Rattle.pieces.specs.Pieces.{countOf}
 use Rattle.wire.specs.Frame.{Frame, wireOf}
 use Rattle.commands.specs.Commands.{accepted, wrongFirst, wrongSecond, notUnderstood, largestTotal}
 use Rattle.commands.specs.Commands.{rateReply, parametersReply, packetReply, restartReply, notice, restartFrame}
-use Rattle.stages.specs.Stages.{numberOfRate, stageFits}
-use Rattle.host.specs.Session.{limitOf, mostRepeats, stepped, phaseArises, arises}
-use Rattle.stages.specs.StagesLaws.{sending-facts}
-use Rattle.host.specs.SessionLaws.{WaitOf, wait-facts}
+use Rattle.host_model.specs.Stages.{numberOfRate, stageFits}
+use Rattle.host_model.specs.Waits.{limitOf, mostRepeats, phaseArises}
+use Rattle.host.specs.Session.{stepped, arises}
+use Rattle.host_model.specs.StagesLaws.{sending-facts}
+use Rattle.host_model.specs.WaitsLaws.{WaitOf, wait-facts}
 use Rattle.commands.specs.Commands.{startAnswer}
-use Rattle.host.specs.Messages.{messageOf}
-use Rattle.stages.specs.Answers.{byAck, lowerMove, rateMove, pieceSize, sizeMove, parametersMove, acceptedMove, sameMove, packetMove}
-use Rattle.stages.specs.Answers.{noticeMove, fitting, whereFitting, frameMove, textMove, lineMove}
-use Rattle.stages.specs.AnswersLaws.{ack-cases, accepted-last, fitting-facts, ack-accepted, ack-first, ack-second, ack-again}
-use Rattle.stages.specs.AnswersLaws.{rate-asked, rate-none, size-begins, size-stops, parameters-ack}
-use Rattle.stages.specs.AnswersLaws.{accepted-before, packet-this, packet-none, notice-good, notice-bad, text-same}
+use Rattle.host_model.specs.Messages.{messageOf}
+use Rattle.host_model.specs.Answers.{byAck, lowerMove, rateMove, pieceSize, sizeMove, parametersMove, acceptedMove, sameMove, packetMove}
+use Rattle.host_model.specs.Answers.{noticeMove, fitting, whereFitting, frameMove, textMove, lineMove}
+use Rattle.host_model.specs.AnswersLaws.{ack-cases, accepted-last, fitting-facts, ack-accepted, ack-first, ack-second, ack-again}
+use Rattle.host_model.specs.AnswersLaws.{rate-asked, rate-none, size-begins, size-stops, parameters-ack}
+use Rattle.host_model.specs.AnswersLaws.{accepted-before, packet-this, packet-none, notice-good, notice-bad, text-same}
 use Rattle.host.specs.Step.{left, waitingOf, endedOf, sends, resends, moved, timeStep, eventStep}
 use Rattle.host.specs.StepLaws.{step-phase, sends-fits, sends-short}
-use Rattle.host.specs.Runs.{Given, leaves}
-use Rattle.host.specs.Promises.{Hears, HearsLine, PacketAccepted, accepts, same, Follows, started, agreed, lowered, declared}
-use Rattle.host.specs.Promises.{continued, noticed, Due, late, rate-again, rate-0-again, parameters-again, packet-again}
-use Rattle.host.specs.Promises.{packet-0-again, restart-again, RefusedBy, lowest, parameters, packet, packet-0, same-version}
-use Rattle.host.specs.Promises.{failure, NoPieces, AllAccepted, Restarted, Awaits, Message, again, onward, restart, Turn}
-use Rattle.host.specs.Promises.{no-room, gives-up, too-many, awaits, finishes, waits, passed-over, EveryTurn, EveryReason}
-use Rattle.host.specs.Promises as promise
-use Rattle.stages.specs.declared.plan.Rate.{Rate}
-use Rattle.stages.specs.declared.plan.Rate.the-variants.{R9600, R19200, R38400, R57600, R115200}
-use Rattle.stages.specs.declared.plan.Same.{Same}
-use Rattle.stages.specs.declared.plan.Same.the-variants.{GoOn, Stop}
-use Rattle.stages.specs.declared.plan.Stage.{Stage}
-use Rattle.stages.specs.declared.plan.Stage.the-variants.{Text, Asking, Declaring, Sending, Noticing, Restarting}
-use Rattle.host.specs.declared.session.Wait.{Wait}
-use Rattle.host.specs.declared.session.Phase.the-variants.{Waiting}
+use Rattle.host_promises.specs.Runs.{Given, leaves}
+use Rattle.host_promises.specs.Promises.{Hears, HearsLine, PacketAccepted, accepts, same, Follows, started, agreed, lowered, declared}
+use Rattle.host_promises.specs.Promises.{continued, noticed, Due, late, rate-again, rate-0-again, parameters-again, packet-again}
+use Rattle.host_promises.specs.Promises.{packet-0-again, restart-again, RefusedBy, lowest, parameters, packet, packet-0, same-version}
+use Rattle.host_promises.specs.Promises.{failure, NoPieces, AllAccepted, Restarted, Awaits, Message, again, onward, restart, Turn}
+use Rattle.host_promises.specs.Promises.{no-room, gives-up, too-many, awaits, finishes, waits, passed-over, EveryTurn, EveryReason}
+use Rattle.host_promises.specs.Promises as promise
+use Rattle.host_model.specs.declared.plan.Rate.{Rate}
+use Rattle.host_model.specs.declared.plan.Rate.the-variants.{R9600, R19200, R38400, R57600, R115200}
+use Rattle.host_model.specs.declared.plan.Same.{Same}
+use Rattle.host_model.specs.declared.plan.Same.the-variants.{GoOn, Stop}
+use Rattle.host_model.specs.declared.plan.Stage.{Stage}
+use Rattle.host_model.specs.declared.plan.Stage.the-variants.{Text, Asking, Declaring, Sending, Noticing, Restarting}
+use Rattle.host_model.specs.declared.waits.Wait.{Wait}
+use Rattle.host_model.specs.declared.waits.Phase.the-variants.{Waiting}
 use Rattle.host.specs.declared.session.Session.{Session}
-use Rattle.host.specs.declared.session.Event.{Event}
-use Rattle.host.specs.declared.session.Event.the-variants.{Line, Elapsed}
-use Rattle.host.specs.declared.session.Event.the-variants as event
-use Rattle.host.specs.declared.session.Answer.{Answer}
-use Rattle.host.specs.declared.session.Answer.the-variants.{Nothing, Sent, Refused}
-use Rattle.stages.specs.declared.answers.Move.{Move}
-use Rattle.stages.specs.declared.answers.Move.the-variants.{Stay, Enter, Await, Resend, Refuse, TooMany, Finish}
+use Rattle.host_model.specs.declared.events.Event.{Event}
+use Rattle.host_model.specs.declared.events.Event.the-variants.{Line, Elapsed}
+use Rattle.host_model.specs.declared.events.Event.the-variants as event
+use Rattle.host_model.specs.declared.events.Answer.{Answer}
+use Rattle.host_model.specs.declared.events.Answer.the-variants.{Nothing, Sent, Refused}
+use Rattle.host_model.specs.declared.answers.Move.{Move}
+use Rattle.host_model.specs.declared.answers.Move.the-variants.{Stay, Enter, Await, Resend, Refuse, TooMany, Finish}
 
 -- ---- payloads of one, two and three bytes
 

@@ -13,7 +13,7 @@ use Rattle.wire.specs.Frame.{Frame, longestPayload, wireOf}
 use Rattle.wire.specs.Write.{writeOf}
 use Rattle.commands.specs.Commands.{packetFrame}
 use Rattle.commands.specs.CommandsLaws.{length-packet, piece-most}
-use Rattle.host.specs.Messages.{sentOf}
+use Rattle.host_model.specs.Messages.{sentOf}
 
 -- A frame of at most 1,030 payload bytes is written as a message is sent.
 pub sent-frame : (f : Frame) (output : List ℕ) → length (f .payload) ≤ longestPayload → writeOf f output ≡ sentOf (wireOf f) output

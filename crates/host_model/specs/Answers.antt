@@ -9,17 +9,17 @@ use Rattle.refusals.specs.Refusals.{moduleRefused, badNotice}
 use Rattle.pieces.specs.Pieces.{countOf}
 use Rattle.commands.specs.Commands.{rateCommand, parametersCommand, packetCommand, restartCommand, noticeCommand}
 use Rattle.commands.specs.Commands.{accepted, wrongFirst, wrongSecond, notUnderstood, largestPacket, largestTotal}
-use Rattle.stages.specs.Stages.{numberOfRate}
+use Rattle.host_model.specs.Stages.{numberOfRate}
 use Rattle.commands.specs.Commands.{startAnswer}
-use Rattle.stages.specs.declared.plan.Rate.{Rate}
-use Rattle.stages.specs.declared.plan.Rate.the-variants.{R9600, R19200, R38400, R57600, R115200}
-use Rattle.stages.specs.declared.plan.Same.{Same}
-use Rattle.stages.specs.declared.plan.Same.the-variants as same
-use Rattle.stages.specs.declared.plan.Plan.{Plan}
-use Rattle.stages.specs.declared.plan.Stage.{Stage}
-use Rattle.stages.specs.declared.plan.Stage.the-variants.{Text, Asking, Declaring, Sending, Noticing, Restarting}
-use Rattle.stages.specs.declared.answers.Move.{Move}
-use Rattle.stages.specs.declared.answers.Move.the-variants.{Stay, Enter, Await, Resend, Refuse, TooMany, Finish}
+use Rattle.host_model.specs.declared.plan.Rate.{Rate}
+use Rattle.host_model.specs.declared.plan.Rate.the-variants.{R9600, R19200, R38400, R57600, R115200}
+use Rattle.host_model.specs.declared.plan.Same.{Same}
+use Rattle.host_model.specs.declared.plan.Same.the-variants as same
+use Rattle.host_model.specs.declared.plan.Plan.{Plan}
+use Rattle.host_model.specs.declared.plan.Stage.{Stage}
+use Rattle.host_model.specs.declared.plan.Stage.the-variants.{Text, Asking, Declaring, Sending, Noticing, Restarting}
+use Rattle.host_model.specs.declared.answers.Move.{Move}
+use Rattle.host_model.specs.declared.answers.Move.the-variants.{Stay, Enter, Await, Resend, Refuse, TooMany, Finish}
 
 -- An answer by its ACK: what 00, 01 and 02 lead to. 10 asks for the frame again; an ACK that is not listed counts as no answer.
 unfoldable pub byAck : ℕ → Move → Move → Move → Move

@@ -1,4 +1,4 @@
--- The laws of Session: each test and the facts that it stands for.
+-- The laws of Waits: each test and the facts that it stands for.
 use Prim.Native.Nat.{ℕ, _≤_, _<_}
 use mathlib.Core.Bool.{true, false, not-eq-not}
 use mathlib.Core.List.{List}
@@ -8,12 +8,20 @@ use lib.Dec.{ltb, leb}
 use Rattle.octets.specs.Choice.{both}
 use Rattle.kinds.specs.Kinds.{fitsFile}
 use Rattle.kinds.specs.KindsLaws.{file-some}
-use Rattle.stages.specs.Stages.{stageFits}
-use Rattle.stages.specs.Answers.{frameMove, lineMove}
-use Rattle.stages.specs.StagesLaws.{Small, SmallMove, stage-small}
-use Rattle.stages.specs.Moves.{fits-frame, fits-line, fits-small}
-use Rattle.host.specs.Session.{mostRepeats, limitOf, waitFits}
-use Rattle.host.specs.declared.session.Wait.{Wait}
+use Rattle.host_model.specs.Stages.{stageFits}
+use Rattle.host_model.specs.Answers.{frameMove, lineMove}
+use Rattle.host_model.specs.StagesLaws.{Small, SmallMove, stage-small}
+use Rattle.host_model.specs.Moves.{fits-frame, fits-line, fits-small}
+use Rattle.host_model.specs.Waits.{mostRepeats, limitOf, firstStage, waitFits}
+use Rattle.host_model.specs.declared.plan.Rate.{Rate}
+use Rattle.host_model.specs.declared.plan.Start.{Start}
+use Rattle.host_model.specs.declared.plan.Start.the-variants.{WithText, AtOnce}
+use Rattle.host_model.specs.declared.waits.Wait.{Wait}
+
+-- A session begins at a small stage.
+pub first-small : (start : Start) (rate : Rate) → Small (firstStage start rate)
+first-small WithText rate = tt
+first-small AtOnce rate = tt
 
 -- ---- a waiting session
 

@@ -18,37 +18,38 @@ use Rattle.commands.specs.Commands.{accepted, wrongFirst, wrongSecond}
 use Rattle.commands.specs.Commands.{rateCommand, parametersCommand, packetCommand, restartCommand, noticeCommand}
 use Rattle.commands.specs.Commands.{rateReply, parametersReply, packetReply, restartReply, notice}
 use Rattle.commands.specs.Commands.{rateFrame, parametersFrame, packetFrame, restartFrame}
-use Rattle.stages.specs.Stages.{numberOfRate, stageFits}
-use Rattle.host.specs.Session.{mostRepeats, limitOf, session, wait, stepped, firstStage}
-use Rattle.host.specs.SessionLaws.{WaitOf}
-use Rattle.stages.specs.StagesLaws.{stage-small, sending-facts}
+use Rattle.host_model.specs.Stages.{numberOfRate, stageFits}
+use Rattle.host_model.specs.Waits.{mostRepeats, limitOf, wait, firstStage}
+use Rattle.host.specs.Session.{session, stepped}
+use Rattle.host_model.specs.WaitsLaws.{WaitOf}
+use Rattle.host_model.specs.StagesLaws.{stage-small, sending-facts}
 use Rattle.commands.specs.Commands.{startAnswer}
-use Rattle.host.specs.Messages.{messageOf}
-use Rattle.stages.specs.Answers.{byAck, lowerMove, pieceSize, sizeMove, parametersMove, acceptedMove, sameMove, noticeMove}
-use Rattle.stages.specs.Answers.{fitting, frameMove, lineMove}
-use Rattle.stages.specs.AnswersLaws.{ack-accepted, rate-asked, Carried, size-begins, parameters-ack, packet-this, text-same}
-use Rattle.stages.specs.AnswersLaws.{accepted-last, accepted-before}
+use Rattle.host_model.specs.Messages.{messageOf}
+use Rattle.host_model.specs.Answers.{byAck, lowerMove, pieceSize, sizeMove, parametersMove, acceptedMove, sameMove, noticeMove}
+use Rattle.host_model.specs.Answers.{fitting, frameMove, lineMove}
+use Rattle.host_model.specs.AnswersLaws.{ack-accepted, rate-asked, Carried, size-begins, parameters-ack, packet-this, text-same}
+use Rattle.host_model.specs.AnswersLaws.{accepted-last, accepted-before}
 use Rattle.host.specs.Step.{Left, left, Wishes, sends, waitingOf, endedOf, enters, moved, eventStep}
 use Rattle.host.specs.Step.{planOf, planOpening, openingOf}
 use Rattle.commands.specs.CommandsLaws.{piece-most, length-packet, length-parameters}
-use Rattle.stages.specs.StagesLaws.{Small}
+use Rattle.host_model.specs.StagesLaws.{Small}
 use Rattle.host.specs.StepLaws.{step-phase, sends-fits}
-use Rattle.host.specs.Runs.{Given, leaves, sentBy}
-use Rattle.host.specs.Promises.{Hears, HearsLine, line, frame, GoodStep}
-use Rattle.stages.specs.Moves.{FitsMove, fits-frame, fits-line}
-use Rattle.host.specs.Arises.{wait-arises, limit-within, first-fits}
-use Rattle.stages.specs.declared.plan.Rate.{Rate}
-use Rattle.stages.specs.declared.plan.Start.{Start}
-use Rattle.stages.specs.declared.plan.Plan.{Plan}
-use Rattle.stages.specs.declared.plan.Stage.{Stage}
-use Rattle.stages.specs.declared.plan.Stage.the-variants.{Text, Asking, Declaring, Sending, Noticing, Restarting}
-use Rattle.host.specs.declared.session.Wait.{Wait}
-use Rattle.host.specs.declared.session.Phase.the-variants.{Waiting}
+use Rattle.host_promises.specs.Runs.{Given, leaves, sentBy}
+use Rattle.host_promises.specs.Promises.{Hears, HearsLine, line, frame, GoodStep}
+use Rattle.host_model.specs.Moves.{FitsMove, fits-frame, fits-line}
+use Rattle.host_promises.specs.Arises.{wait-arises, limit-within, first-fits}
+use Rattle.host_model.specs.declared.plan.Rate.{Rate}
+use Rattle.host_model.specs.declared.plan.Start.{Start}
+use Rattle.host_model.specs.declared.plan.Plan.{Plan}
+use Rattle.host_model.specs.declared.plan.Stage.{Stage}
+use Rattle.host_model.specs.declared.plan.Stage.the-variants.{Text, Asking, Declaring, Sending, Noticing, Restarting}
+use Rattle.host_model.specs.declared.waits.Wait.{Wait}
+use Rattle.host_model.specs.declared.waits.Phase.the-variants.{Waiting}
 use Rattle.host.specs.declared.session.Session.{Session}
-use Rattle.host.specs.declared.session.Event.{Event}
-use Rattle.host.specs.declared.session.Answer.the-variants.{Sent, Done}
-use Rattle.stages.specs.declared.answers.Move.{Move}
-use Rattle.stages.specs.declared.answers.Move.the-variants.{Stay, Enter, Await, Refuse, Finish}
+use Rattle.host_model.specs.declared.events.Event.{Event}
+use Rattle.host_model.specs.declared.events.Answer.the-variants.{Sent, Done}
+use Rattle.host_model.specs.declared.answers.Move.{Move}
+use Rattle.host_model.specs.declared.answers.Move.the-variants.{Stay, Enter, Await, Refuse, Finish}
 
 -- ---- how long a message is
 

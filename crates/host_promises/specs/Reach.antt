@@ -18,38 +18,39 @@ use Rattle.pieces.specs.Pieces.{countOf}
 use Rattle.pieces.specs.PiecesLaws.{count-some}
 use Rattle.wire.specs.Frame.{Frame}
 use Rattle.commands.specs.Commands.{accepted, wrongFirst, rateReply, parametersReply, packetReply, notice}
-use Rattle.stages.specs.Stages.{numberOfRate, textFits, stageFits}
-use Rattle.host.specs.Session.{mostRepeats, limitOf, session, wait, firstStage, arises}
-use Rattle.stages.specs.StagesLaws.{rate-facts, facts-rate, SentOf, sent-facts, facts-sent, sending-facts, facts-sending}
-use Rattle.stages.specs.StagesLaws.{stage-small}
-use Rattle.host.specs.SessionLaws.{WaitOf}
+use Rattle.host_model.specs.Stages.{numberOfRate, textFits, stageFits}
+use Rattle.host_model.specs.Waits.{mostRepeats, limitOf, wait, firstStage}
+use Rattle.host.specs.Session.{session, arises}
+use Rattle.host_model.specs.StagesLaws.{rate-facts, facts-rate, SentOf, sent-facts, facts-sent, sending-facts, facts-sending}
+use Rattle.host_model.specs.StagesLaws.{stage-small}
+use Rattle.host_model.specs.WaitsLaws.{WaitOf}
 use Rattle.commands.specs.Commands.{startAnswer}
-use Rattle.host.specs.Messages.{messageOf}
-use Rattle.stages.specs.Answers.{lowerMove, pieceSize}
-use Rattle.stages.specs.AnswersLaws.{ack-first}
+use Rattle.host_model.specs.Messages.{messageOf}
+use Rattle.host_model.specs.Answers.{lowerMove, pieceSize}
+use Rattle.host_model.specs.AnswersLaws.{ack-first}
 use Rattle.host.specs.Step.{Left, Wishes, waitingOf, endedOf, resends, timeStep, openingOf}
-use Rattle.host.specs.Runs.{Given, leaves, afterOf}
-use Rattle.host.specs.Promises.{line, frame, GoodStep, RealEvent, Real, AllReal, Reached, ArisesReached}
-use Rattle.host.specs.Arises.{first-fits, arises-wait, limit-within}
-use Rattle.host.specs.Forward.{message-short, rate-answered, event-taken, arrived, Fits, fits-wait, Leads, frame-enters}
+use Rattle.host_promises.specs.Runs.{Given, leaves, afterOf}
+use Rattle.host_promises.specs.Promises.{line, frame, GoodStep, RealEvent, Real, AllReal, Reached, ArisesReached}
+use Rattle.host_promises.specs.Arises.{first-fits, arises-wait, limit-within}
+use Rattle.host_promises.specs.Forward.{message-short, rate-answered, event-taken, arrived, Fits, fits-wait, Leads, frame-enters}
 use Rattle.host.specs.StepLaws.{sends-fits}
-use Rattle.host.specs.Forward.{text-step, rate-step, parameters-step, packet-step, last-step, notice-step, opening-sends}
-use Rattle.stages.specs.declared.plan.Rate.{Rate}
-use Rattle.stages.specs.declared.plan.Rate.the-variants.{R9600, R19200, R38400, R57600, R115200}
-use Rattle.stages.specs.declared.plan.Start.{Start}
-use Rattle.stages.specs.declared.plan.Start.the-variants.{WithText, AtOnce}
-use Rattle.stages.specs.declared.plan.Same.the-variants.{GoOn}
-use Rattle.stages.specs.declared.plan.Plan.{Plan}
-use Rattle.stages.specs.declared.plan.Stage.{Stage}
-use Rattle.stages.specs.declared.plan.Stage.the-variants.{Text, Asking, Declaring, Sending, Noticing, Restarting}
-use Rattle.host.specs.declared.session.Wait.{Wait}
-use Rattle.host.specs.declared.session.Phase.{Phase}
-use Rattle.host.specs.declared.session.Phase.the-variants.{Ended, Waiting}
+use Rattle.host_promises.specs.Forward.{text-step, rate-step, parameters-step, packet-step, last-step, notice-step, opening-sends}
+use Rattle.host_model.specs.declared.plan.Rate.{Rate}
+use Rattle.host_model.specs.declared.plan.Rate.the-variants.{R9600, R19200, R38400, R57600, R115200}
+use Rattle.host_model.specs.declared.plan.Start.{Start}
+use Rattle.host_model.specs.declared.plan.Start.the-variants.{WithText, AtOnce}
+use Rattle.host_model.specs.declared.plan.Same.the-variants.{GoOn}
+use Rattle.host_model.specs.declared.plan.Plan.{Plan}
+use Rattle.host_model.specs.declared.plan.Stage.{Stage}
+use Rattle.host_model.specs.declared.plan.Stage.the-variants.{Text, Asking, Declaring, Sending, Noticing, Restarting}
+use Rattle.host_model.specs.declared.waits.Wait.{Wait}
+use Rattle.host_model.specs.declared.waits.Phase.{Phase}
+use Rattle.host_model.specs.declared.waits.Phase.the-variants.{Ended, Waiting}
 use Rattle.host.specs.declared.session.Session.{Session}
-use Rattle.host.specs.declared.session.Event.{Event}
-use Rattle.host.specs.declared.session.Event.the-variants.{Line, Elapsed}
-use Rattle.host.specs.declared.session.Event.the-variants as event
-use Rattle.stages.specs.declared.answers.Move.the-variants.{Enter}
+use Rattle.host_model.specs.declared.events.Event.{Event}
+use Rattle.host_model.specs.declared.events.Event.the-variants.{Line, Elapsed}
+use Rattle.host_model.specs.declared.events.Event.the-variants as event
+use Rattle.host_model.specs.declared.answers.Move.the-variants.{Enter}
 
 -- What holds at 0 and goes from each number below a total to the next holds up to the total.
 up-to : (P : ℕ → Type 0) (total : ℕ) → P 0 → ((k : ℕ) → k < total → P k → P (k + 1)) → (k : ℕ) → k ≤ total → P k

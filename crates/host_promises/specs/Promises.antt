@@ -13,30 +13,31 @@ use Rattle.commands.specs.Commands.{accepted, wrongFirst, wrongSecond, notUnder
 use Rattle.commands.specs.Commands.{rateReply, parametersReply, packetReply, restartReply, notice}
 use Rattle.commands.specs.Commands.{rateFrame, parametersFrame, packetFrame, restartFrame}
 use Rattle.refusals.specs.Refusals.{noRoom, wrongPieces, noAnswer, moduleRefused, badNotice}
-use Rattle.stages.specs.Stages.{numberOfRate}
-use Rattle.host.specs.Session.{limitOf, stepped, arises}
+use Rattle.host_model.specs.Stages.{numberOfRate}
+use Rattle.host_model.specs.Waits.{limitOf}
+use Rattle.host.specs.Session.{stepped, arises}
 use Rattle.commands.specs.Commands.{startText, startAnswer}
-use Rattle.host.specs.Messages.{messageOf}
-use Rattle.stages.specs.Answers.{pieceSize, sizeMove}
+use Rattle.host_model.specs.Messages.{messageOf}
+use Rattle.host_model.specs.Answers.{pieceSize, sizeMove}
 use Rattle.host.specs.Step.{Left, left, Wishes, waitingOf, endedOf, openingOf}
-use Rattle.host.specs.Runs.{Given, leaves, afterOf, sentBy, sentOver, answersOf}
-use Rattle.stages.specs.declared.plan.Rate.{Rate}
-use Rattle.stages.specs.declared.plan.Rate.the-variants.{R9600}
-use Rattle.stages.specs.declared.plan.Start.{Start}
-use Rattle.stages.specs.declared.plan.Start.the-variants.{WithText, AtOnce}
-use Rattle.stages.specs.declared.plan.Same.the-variants.{GoOn, Stop}
-use Rattle.stages.specs.declared.plan.Plan.{Plan}
-use Rattle.stages.specs.declared.plan.Stage.{Stage}
-use Rattle.stages.specs.declared.plan.Stage.the-variants.{Text, Asking, Declaring, Sending, Noticing, Restarting}
-use Rattle.host.specs.declared.session.Wait.{Wait}
-use Rattle.host.specs.declared.session.Phase.the-variants.{Waiting}
+use Rattle.host_promises.specs.Runs.{Given, leaves, afterOf, sentBy, sentOver, answersOf}
+use Rattle.host_model.specs.declared.plan.Rate.{Rate}
+use Rattle.host_model.specs.declared.plan.Rate.the-variants.{R9600}
+use Rattle.host_model.specs.declared.plan.Start.{Start}
+use Rattle.host_model.specs.declared.plan.Start.the-variants.{WithText, AtOnce}
+use Rattle.host_model.specs.declared.plan.Same.the-variants.{GoOn, Stop}
+use Rattle.host_model.specs.declared.plan.Plan.{Plan}
+use Rattle.host_model.specs.declared.plan.Stage.{Stage}
+use Rattle.host_model.specs.declared.plan.Stage.the-variants.{Text, Asking, Declaring, Sending, Noticing, Restarting}
+use Rattle.host_model.specs.declared.waits.Wait.{Wait}
+use Rattle.host_model.specs.declared.waits.Phase.the-variants.{Waiting}
 use Rattle.host.specs.declared.session.Session.{Session}
-use Rattle.host.specs.declared.session.Event.{Event}
-use Rattle.host.specs.declared.session.Event.the-variants.{Line, Elapsed}
-use Rattle.host.specs.declared.session.Event.the-variants as event
-use Rattle.stages.specs.declared.answers.Move.the-variants.{Enter, TooMany}
-use Rattle.host.specs.declared.session.Answer.{Answer}
-use Rattle.host.specs.declared.session.Answer.the-variants.{Nothing, Sent, Done, Refused, Failed}
+use Rattle.host_model.specs.declared.events.Event.{Event}
+use Rattle.host_model.specs.declared.events.Event.the-variants.{Line, Elapsed}
+use Rattle.host_model.specs.declared.events.Event.the-variants as event
+use Rattle.host_model.specs.declared.answers.Move.the-variants.{Enter, TooMany}
+use Rattle.host_model.specs.declared.events.Answer.{Answer}
+use Rattle.host_model.specs.declared.events.Answer.the-variants.{Nothing, Sent, Done, Refused, Failed}
 
 -- ---- what is heard
 

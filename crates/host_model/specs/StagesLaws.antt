@@ -8,13 +8,13 @@ use lib.Dec.{leb}
 use Rattle.octets.specs.Choice.{both}
 use Rattle.pieces.specs.Pieces.{countOf}
 use Rattle.commands.specs.Commands.{largestPacket, largestTotal}
-use Rattle.stages.specs.Stages.{numberOfRate, rateFits, sizeFits, numberFits, stageFits}
-use Rattle.stages.specs.declared.plan.Rate.{Rate}
-use Rattle.stages.specs.declared.plan.Plan.{Plan}
-use Rattle.stages.specs.declared.plan.Stage.{Stage}
-use Rattle.stages.specs.declared.plan.Stage.the-variants.{Text, Asking, Declaring, Sending, Noticing, Restarting}
-use Rattle.stages.specs.declared.answers.Move.{Move}
-use Rattle.stages.specs.declared.answers.Move.the-variants.{Stay, Enter, Await, Resend, Refuse, TooMany, Finish}
+use Rattle.host_model.specs.Stages.{numberOfRate, rateFits, sizeFits, numberFits, stageFits}
+use Rattle.host_model.specs.declared.plan.Rate.{Rate}
+use Rattle.host_model.specs.declared.plan.Plan.{Plan}
+use Rattle.host_model.specs.declared.plan.Stage.{Stage}
+use Rattle.host_model.specs.declared.plan.Stage.the-variants.{Text, Asking, Declaring, Sending, Noticing, Restarting}
+use Rattle.host_model.specs.declared.answers.Move.{Move}
+use Rattle.host_model.specs.declared.answers.Move.the-variants.{Stay, Enter, Await, Resend, Refuse, TooMany, Finish}
 
 -- A stage whose packets fit a frame.
 abbrev pub Small : Stage → Type 0

@@ -12,30 +12,31 @@ use Rattle.kinds.specs.Kinds.{kindOf, fitsFile}
 use Rattle.kinds.specs.KindsLaws.{file-some}
 use Rattle.kinds.specs.declared.Known.{Known}
 use Rattle.kinds.specs.declared.Known.the-variants.{Is, Unknown}
-use Rattle.stages.specs.Stages.{stageFits}
-use Rattle.host.specs.Session.{mostRepeats, limitOf, session, firstStage, arises}
-use Rattle.stages.specs.StagesLaws.{facts-rate}
-use Rattle.host.specs.SessionLaws.{WaitOf, wait-facts, facts-wait}
-use Rattle.stages.specs.Answers.{frameMove, lineMove}
-use Rattle.stages.specs.Moves.{FitsMove, fits-frame, fits-line}
+use Rattle.host_model.specs.Stages.{stageFits}
+use Rattle.host_model.specs.Waits.{mostRepeats, limitOf, firstStage}
+use Rattle.host.specs.Session.{session, arises}
+use Rattle.host_model.specs.StagesLaws.{facts-rate}
+use Rattle.host_model.specs.WaitsLaws.{WaitOf, wait-facts, facts-wait}
+use Rattle.host_model.specs.Answers.{frameMove, lineMove}
+use Rattle.host_model.specs.Moves.{FitsMove, fits-frame, fits-line}
 use Rattle.host.specs.Step.{Left, Wishes, sends, waitingOf, enters, resends, moved, timeStep, eventStep, phaseStep, stepOf}
 use Rattle.host.specs.Step.{planOf, planOpening, knownOpening, openingOf}
-use Rattle.host.specs.Runs.{Given, leaves, afterOf}
-use Rattle.host.specs.Promises.{ReachedArises}
-use Rattle.stages.specs.declared.plan.Start.{Start}
-use Rattle.stages.specs.declared.plan.Start.the-variants.{WithText, AtOnce}
-use Rattle.stages.specs.declared.plan.Plan.{Plan}
-use Rattle.stages.specs.declared.plan.Stage.{Stage}
-use Rattle.stages.specs.declared.plan.Stage.the-variants.{Text, Asking, Declaring, Sending, Noticing, Restarting}
-use Rattle.host.specs.declared.session.Wait.{Wait}
-use Rattle.host.specs.declared.session.Phase.{Phase}
-use Rattle.host.specs.declared.session.Phase.the-variants.{Ended, Waiting}
+use Rattle.host_promises.specs.Runs.{Given, leaves, afterOf}
+use Rattle.host_promises.specs.Promises.{ReachedArises}
+use Rattle.host_model.specs.declared.plan.Start.{Start}
+use Rattle.host_model.specs.declared.plan.Start.the-variants.{WithText, AtOnce}
+use Rattle.host_model.specs.declared.plan.Plan.{Plan}
+use Rattle.host_model.specs.declared.plan.Stage.{Stage}
+use Rattle.host_model.specs.declared.plan.Stage.the-variants.{Text, Asking, Declaring, Sending, Noticing, Restarting}
+use Rattle.host_model.specs.declared.waits.Wait.{Wait}
+use Rattle.host_model.specs.declared.waits.Phase.{Phase}
+use Rattle.host_model.specs.declared.waits.Phase.the-variants.{Ended, Waiting}
 use Rattle.host.specs.declared.session.Session.{Session}
-use Rattle.host.specs.declared.session.Event.{Event}
-use Rattle.host.specs.declared.session.Event.the-variants.{Frame, Line, Elapsed}
+use Rattle.host_model.specs.declared.events.Event.{Event}
+use Rattle.host_model.specs.declared.events.Event.the-variants.{Frame, Line, Elapsed}
 use Rattle.host.specs.declared.session.Stepped.{Stepped}
-use Rattle.stages.specs.declared.answers.Move.{Move}
-use Rattle.stages.specs.declared.answers.Move.the-variants.{Stay, Enter, Await, Resend, Refuse, TooMany, Finish}
+use Rattle.host_model.specs.declared.answers.Move.{Move}
+use Rattle.host_model.specs.declared.answers.Move.the-variants.{Stay, Enter, Await, Resend, Refuse, TooMany, Finish}
 
 -- ---- each step
 

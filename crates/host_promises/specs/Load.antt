@@ -15,27 +15,27 @@ use Rattle.pieces.specs.PiecesLaws.{take-more, take-whole, count-some}
 use Rattle.wire.specs.Frame.{wireOf}
 use Rattle.commands.specs.Commands.{accepted, parametersReply, restartReply, notice}
 use Rattle.commands.specs.Commands.{rateFrame, parametersFrame, packetFrame, restartFrame}
-use Rattle.stages.specs.Stages.{numberOfRate}
-use Rattle.host.specs.Session.{firstStage}
-use Rattle.host.specs.Messages.{messageOf}
-use Rattle.stages.specs.Answers.{pieceSize}
-use Rattle.stages.specs.AnswersLaws.{Carried}
+use Rattle.host_model.specs.Stages.{numberOfRate}
+use Rattle.host_model.specs.Waits.{firstStage}
+use Rattle.host_model.specs.Messages.{messageOf}
+use Rattle.host_model.specs.Answers.{pieceSize}
+use Rattle.host_model.specs.AnswersLaws.{Carried}
 use Rattle.host.specs.Step.{Left, Wishes, planOf, openingOf}
-use Rattle.host.specs.Runs.{Given, leaves, sentBy, sentOver, answersOf}
-use Rattle.host.specs.Promises.{piecesFrom, PiecesAreImage, Heard, frame, packetsHeard, framesHeard, startHeard}
-use Rattle.host.specs.Promises.{GoodSteps, packetsSent, startSent, GoodLoad, GoodEnds}
-use Rattle.host.specs.Arises.{first-fits}
-use Rattle.host.specs.Forward.{arrived, Fits, Leads, text-step, rate-step, parameters-step, packet-step, last-step, notice-step}
-use Rattle.host.specs.Forward.{restart-step, opening-sends}
-use Rattle.stages.specs.declared.plan.Rate.{Rate}
-use Rattle.stages.specs.declared.plan.Start.{Start}
-use Rattle.stages.specs.declared.plan.Start.the-variants.{WithText, AtOnce}
-use Rattle.stages.specs.declared.plan.Plan.{Plan}
-use Rattle.stages.specs.declared.plan.Stage.{Stage}
-use Rattle.stages.specs.declared.plan.Stage.the-variants.{Text, Asking, Declaring, Sending, Noticing, Restarting}
+use Rattle.host_promises.specs.Runs.{Given, leaves, sentBy, sentOver, answersOf}
+use Rattle.host_promises.specs.Promises.{piecesFrom, PiecesAreImage, Heard, frame, packetsHeard, framesHeard, startHeard}
+use Rattle.host_promises.specs.Promises.{GoodSteps, packetsSent, startSent, GoodLoad, GoodEnds}
+use Rattle.host_promises.specs.Arises.{first-fits}
+use Rattle.host_promises.specs.Forward.{arrived, Fits, Leads, text-step, rate-step, parameters-step, packet-step, last-step, notice-step}
+use Rattle.host_promises.specs.Forward.{restart-step, opening-sends}
+use Rattle.host_model.specs.declared.plan.Rate.{Rate}
+use Rattle.host_model.specs.declared.plan.Start.{Start}
+use Rattle.host_model.specs.declared.plan.Start.the-variants.{WithText, AtOnce}
+use Rattle.host_model.specs.declared.plan.Plan.{Plan}
+use Rattle.host_model.specs.declared.plan.Stage.{Stage}
+use Rattle.host_model.specs.declared.plan.Stage.the-variants.{Text, Asking, Declaring, Sending, Noticing, Restarting}
 use Rattle.host.specs.declared.session.Session.{Session}
-use Rattle.host.specs.declared.session.Answer.{Answer}
-use Rattle.host.specs.declared.session.Answer.the-variants.{Done}
+use Rattle.host_model.specs.declared.events.Answer.{Answer}
+use Rattle.host_model.specs.declared.events.Answer.the-variants.{Done}
 
 -- ---- the pieces
 

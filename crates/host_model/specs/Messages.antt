@@ -9,10 +9,10 @@ use Rattle.refusals.specs.Written.{Out, refused, written}
 use Rattle.pieces.specs.Pieces.{countOf}
 use Rattle.wire.specs.Frame.{wireOf}
 use Rattle.commands.specs.Commands.{startText, rateFrame, parametersFrame, packetFrame, restartFrame}
-use Rattle.stages.specs.Stages.{numberOfRate}
-use Rattle.stages.specs.declared.plan.Plan.{Plan}
-use Rattle.stages.specs.declared.plan.Stage.{Stage}
-use Rattle.stages.specs.declared.plan.Stage.the-variants.{Text, Asking, Declaring, Sending, Noticing, Restarting}
+use Rattle.host_model.specs.Stages.{numberOfRate}
+use Rattle.host_model.specs.declared.plan.Plan.{Plan}
+use Rattle.host_model.specs.declared.plan.Stage.{Stage}
+use Rattle.host_model.specs.declared.plan.Stage.the-variants.{Text, Asking, Declaring, Sending, Noticing, Restarting}
 
 -- What is sent at a stage, first and again. While the notice is awaited it is the last packet.
 abbrev pub messageOf : Plan → List ℕ → Stage → List ℕ

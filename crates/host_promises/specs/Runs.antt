@@ -2,11 +2,11 @@
 use Prim.Native.Nat.{ℕ}
 use mathlib.Core.List.{List, [], _∷_, _++_}
 use lib.ListN.{take}
+use Rattle.host_model.specs.Events.{countIn}
 use Rattle.host.specs.Step.{Left, stepOf}
 use Rattle.host.specs.declared.session.Session.{Session}
-use Rattle.host.specs.declared.session.Event.{Event}
-use Rattle.host.specs.declared.session.Answer.{Answer}
-use Rattle.host.specs.declared.session.Answer.the-variants.{Nothing, Sent, Done, Refused, Failed}
+use Rattle.host_model.specs.declared.events.Event.{Event}
+use Rattle.host_model.specs.declared.events.Answer.{Answer}
 
 -- What a step is given besides the session: payload or line stand in the bytes.
 pub record Given : Type 0 where
@@ -22,21 +22,6 @@ leaves s g = stepOf s (g .event) (g .bytes) (g .image) (g .output)
 unfoldable pub afterOf : Session → List Given → Session
 afterOf s [] = s
 afterOf s (g ∷ gs) = afterOf (leaves s g .session) gs
-
--- What an answer says: how many bytes are to be sent, and the refusal number, 0 for none.
-abbrev pub countIn : Answer → ℕ
-countIn Nothing = 0
-countIn (Sent n) = n
-countIn Done = 0
-countIn (Refused number) = 0
-countIn (Failed number passed n) = n
-
-abbrev pub refusalIn : Answer → ℕ
-refusalIn Nothing = 0
-refusalIn (Sent n) = 0
-refusalIn Done = 0
-refusalIn (Refused number) = number
-refusalIn (Failed number passed n) = number
 
 -- The bytes that a step sends.
 abbrev pub sentBy : Left → List ℕ
