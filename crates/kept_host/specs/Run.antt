@@ -12,27 +12,28 @@ use Rattle.kinds.specs.Kinds.{kindOf, fitsFile}
 use Rattle.kinds.specs.declared.Known.{Known}
 use Rattle.kinds.specs.declared.Known.the-variants.{Is, Unknown}
 use Rattle.flat.specs.Words.{recorded}
-use Rattle.stages.specs.Stages.{numberOfRate}
-use Rattle.stages.specs.Answers.{frameMove, lineMove}
-use Rattle.stages.specs.declared.answers.Move.{Move}
-use Rattle.stages.specs.declared.answers.Move.the-variants.{Stay, Enter, Await, Resend, Refuse, TooMany, Finish}
-use Rattle.stages.specs.declared.plan.Rate.{Rate}
-use Rattle.stages.specs.declared.plan.Rate.the-variants.{R9600, R19200, R38400, R57600, R115200}
-use Rattle.stages.specs.declared.plan.Start.{Start}
-use Rattle.stages.specs.declared.plan.Start.the-variants.{WithText, AtOnce}
-use Rattle.stages.specs.declared.plan.Same.{Same}
-use Rattle.stages.specs.declared.plan.Same.the-variants.{GoOn, Stop}
-use Rattle.host.specs.Session.{mostRepeats, limitOf, arises}
+use Rattle.host_model.specs.Stages.{numberOfRate}
+use Rattle.host_model.specs.Answers.{frameMove, lineMove}
+use Rattle.host_model.specs.declared.answers.Move.{Move}
+use Rattle.host_model.specs.declared.answers.Move.the-variants.{Stay, Enter, Await, Resend, Refuse, TooMany, Finish}
+use Rattle.host_model.specs.declared.plan.Rate.{Rate}
+use Rattle.host_model.specs.declared.plan.Rate.the-variants.{R9600, R19200, R38400, R57600, R115200}
+use Rattle.host_model.specs.declared.plan.Start.{Start}
+use Rattle.host_model.specs.declared.plan.Start.the-variants.{WithText, AtOnce}
+use Rattle.host_model.specs.declared.plan.Same.{Same}
+use Rattle.host_model.specs.declared.plan.Same.the-variants.{GoOn, Stop}
+use Rattle.host_model.specs.Waits.{mostRepeats, limitOf}
+use Rattle.host.specs.Session.{arises}
 use Rattle.host.specs.Step.{Left, Wishes, sends, endedOf, resends, moved, timeStep, eventStep, phaseStep, stepOf}
 use Rattle.host.specs.Step.{planOpening, knownOpening, openingOf}
-use Rattle.host.specs.Runs.{Given, leaves, afterOf}
-use Rattle.host.specs.Arises.{step-arises, reached-arises}
-use Rattle.host.specs.declared.session.Wait.{Wait}
-use Rattle.host.specs.declared.session.Phase.{Phase}
-use Rattle.host.specs.declared.session.Phase.the-variants.{Ended, Waiting}
+use Rattle.host_promises.specs.Runs.{Given, leaves, afterOf}
+use Rattle.host_promises.specs.Arises.{step-arises, reached-arises}
+use Rattle.host_model.specs.declared.waits.Wait.{Wait}
+use Rattle.host_model.specs.declared.waits.Phase.{Phase}
+use Rattle.host_model.specs.declared.waits.Phase.the-variants.{Ended, Waiting}
 use Rattle.host.specs.declared.session.Session.{Session}
-use Rattle.host.specs.declared.session.Event.{Event}
-use Rattle.host.specs.declared.session.Event.the-variants.{Frame, Line, Elapsed}
+use Rattle.host_model.specs.declared.events.Event.{Event}
+use Rattle.host_model.specs.declared.events.Event.the-variants.{Frame, Line, Elapsed}
 use Rattle.host.specs.declared.session.Stepped.{Stepped}
 use Rattle.kept_host.specs.Kept.{startNumber, sameNumber, wordsOf, rateIn, startIn, sameIn, keptOf, Kept, keptAs, keptStep}
 use Rattle.kept_host.specs.Kept.{Opened, openedAs, wishesKnown, wishesIn, openingBy, keptOpening}

@@ -15,23 +15,24 @@ use Rattle.kinds.specs.KindsLaws.{kind-of-number}
 use Rattle.kinds.specs.declared.Kind.{Kind}
 use Rattle.wire.specs.Frame.{Frame}
 use Rattle.commands.specs.Commands.{notice}
-use Rattle.stages.specs.declared.plan.Rate.{Rate}
-use Rattle.stages.specs.declared.plan.Start.{Start}
-use Rattle.stages.specs.declared.plan.Start.the-variants.{WithText, AtOnce}
+use Rattle.host_model.specs.declared.plan.Rate.{Rate}
+use Rattle.host_model.specs.declared.plan.Start.{Start}
+use Rattle.host_model.specs.declared.plan.Start.the-variants.{WithText, AtOnce}
 use Rattle.module.specs.RunsLaws.{heard-nothing}
 use Rattle.module.specs.Runs.{heardIn}
 use Rattle.module.specs.declared.session.Event.the-variants as module-event
 use Rattle.module.specs.declared.session.Event as module-declared
-use Rattle.host.specs.Session.{firstStage, stepped, arises}
-use Rattle.host.specs.Messages.{messageOf}
+use Rattle.host_model.specs.Waits.{firstStage}
+use Rattle.host.specs.Session.{stepped, arises}
+use Rattle.host_model.specs.Messages.{messageOf}
 use Rattle.host.specs.Step.{Wishes, Left, left, planOf, waitingOf, endedOf, sends, planOpening, openingOf}
-use Rattle.host.specs.Runs.{sentBy, afterOf}
-use Rattle.host.specs.Arises.{first-fits, reached-arises}
-use Rattle.host.specs.Promises.{Hears}
-use Rattle.host.specs.declared.session.Event.{Event}
-use Rattle.host.specs.declared.session.Event.the-variants as host-event
-use Rattle.host.specs.declared.session.Answer.the-variants.{Done, Sent, Refused}
-use Rattle.host.specs.declared.session.Phase.the-variants.{Waiting}
+use Rattle.host_promises.specs.Runs.{sentBy, afterOf}
+use Rattle.host_promises.specs.Arises.{first-fits, reached-arises}
+use Rattle.host_promises.specs.Promises.{Hears}
+use Rattle.host_model.specs.declared.events.Event.{Event}
+use Rattle.host_model.specs.declared.events.Event.the-variants as host-event
+use Rattle.host_model.specs.declared.events.Answer.the-variants.{Done, Sent, Refused}
+use Rattle.host_model.specs.declared.waits.Phase.the-variants.{Waiting}
 use Rattle.line.specs.Joined.{ModuleSession, Joined, Move, board-hears, board-waits, board-opens, host-hears, host-reads, host-waits}
 use Rattle.line.specs.Joined.{May, hostLeaves, after, afterAll, Allowed, joined}
 use Rattle.line.specs.Promises.{HasNotice, InFlash, FileInFlash}

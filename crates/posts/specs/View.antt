@@ -9,8 +9,8 @@ use Rattle.module.specs.declared.session.Transfer.{Transfer}
 use Rattle.module.specs.declared.session.Pieces.{Pieces}
 use Rattle.module.specs.declared.session.Phase.{Phase}
 use Rattle.module.specs.declared.session.Phase.the-variants.{Closed, Ready, Begun, Loading, Done}
-use Rattle.host.specs.declared.session.Answer.{Answer}
-use Rattle.host.specs.declared.session.Answer.the-variants as answer
+use Rattle.host_model.specs.declared.events.Answer.{Answer}
+use Rattle.host_model.specs.declared.events.Answer.the-variants as answer
 use Rattle.posts.specs.declared.post.Post.{Post}
 use Rattle.posts.specs.declared.view.View.{View}
 use Rattle.posts.specs.declared.ending.Ending.{Ending}
