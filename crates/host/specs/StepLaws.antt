@@ -2,7 +2,7 @@
 use Prim.Native.Nat.{ℕ, _≤_, _<_}
 use mathlib.Core.Bool.{Bool, true, false, cond}
 use mathlib.Core.List.{List}
-use mathlib.Core.Path.{_≡_, sym, ap, _∙_}
+use mathlib.Core.Path.{_≡_, sym, ap, ap₂, _∙_}
 use native.Mathlib.Omega.{arith}
 use borrow.Author.Tests.{eq-eqb, ne-eqb, lt-ltb, le-ltb}
 use lib.Dec.{ltb}
@@ -14,12 +14,13 @@ use Rattle.refusals.specs.Written.{Out, refused, written, countOf, refusalOf}
 use Rattle.refusals.specs.declared.Written.{Written}
 use Rattle.refusals.specs.declared.Written.the-variants as writes
 use Rattle.host.specs.Session.{stepped, arises}
-use Rattle.host_model.specs.Waits.{waitFits}
+use Rattle.host_model.specs.Waits.{waitFits, phaseArises}
+use Rattle.host_model.specs.Nexts.{eventNext}
 use Rattle.host_model.specs.Messages.{sentOf}
-use Rattle.host.specs.Step.{left, sends, phaseStep, stepOf}
+use Rattle.host.specs.Step.{left, sends, performs, phaseStep, stepOf}
 use Rattle.host_model.specs.declared.waits.Wait.{Wait}
 use Rattle.host_model.specs.declared.waits.Phase.{Phase}
-use Rattle.host_model.specs.declared.waits.Phase.the-variants.{Waiting}
+use Rattle.host_model.specs.declared.waits.Phase.the-variants.{Ended, Waiting}
 use Rattle.host.specs.declared.session.Session.{Session}
 use Rattle.host_model.specs.declared.events.Event.{Event}
 use Rattle.host_model.specs.declared.events.Answer.the-variants.{Nothing, Refused}
@@ -85,6 +86,30 @@ module _ (s : Session) (e : Event) (bytes image output : List ℕ) where
   unfolding stepOf
   step-phase l a phase told =
       rw (eq-eqb (length image) (s .image) l, a) (ap (λ (p : Phase). phaseStep s p e bytes image output) told)
+
+-- ---- a step by the phase and its numbers
+
+module _ (s : Session) (w : Wait) (image : List ℕ) (same : length image ≡ s .image) (told : s .phase ≡ Waiting w) where
+  -- A waiting session arises just where its numbers fit.
+  waits-arise : arises s ≡ waitFits (length image) w
+  unfolding arises
+  waits-arise = ap₂ phaseArises (sym same) told
+
+  -- Where they do, it takes the event; where they do not, it answers nothing.
+  pub step-waits : (e : Event) (bytes output : List ℕ) → waitFits (length image) w ≡ true
+      → stepOf s e bytes image output ≡ performs s (eventNext w (length image) e bytes) image output
+  step-waits e bytes output h = step-phase s e bytes image output same (waits-arise ∙ h) (Waiting w) told
+
+  pub step-never : (e : Event) (bytes output : List ℕ) → waitFits (length image) w ≡ false
+      → stepOf s e bytes image output ≡ left (stepped s Nothing) output
+  step-never e bytes output h = step-not-arisen s e bytes image output same (waits-arise ∙ h)
+
+-- An ended one answers nothing.
+pub step-ended : (s : Session) (e : Event) (bytes image output : List ℕ) → length image ≡ s .image → s .phase ≡ Ended
+    → stepOf s e bytes image output ≡ left (stepped s Nothing) output
+unfolding arises
+step-ended s e bytes image output same told =
+    step-phase s e bytes image output same (ap (phaseArises (s .image)) told) Ended told
 
 -- ---- room
 

@@ -1,5 +1,4 @@
 // The host's session: it loads one block into a module, answer by answer, and says how it ended.
-mod arises;
 mod messages;
 mod session;
 

@@ -9,14 +9,14 @@ use Rattle.octets.specs.Octets.{laid, over}
 use Rattle.octets.specs.OctetsLaws.{over-nil, over-laid}
 use Rattle.refusals.specs.Refusals.{noRoom}
 use Rattle.refusals.specs.Written.{refused, written}
-use Rattle.wire.specs.Frame.{Frame, longestPayload, wireOf}
+use Rattle.wire.specs.Frame.{Frame, longestPayload}
 use Rattle.wire.specs.Write.{writeOf}
 use Rattle.commands.specs.Commands.{packetFrame}
 use Rattle.commands.specs.CommandsLaws.{length-packet, piece-most}
-use Rattle.host_model.specs.Messages.{sentOf}
+use Rattle.host_model.specs.Messages.{goesOut, sentOf}
 
 -- A frame of at most 1,030 payload bytes is written as a message is sent.
-pub sent-frame : (f : Frame) (output : List ℕ) → length (f .payload) ≤ longestPayload → writeOf f output ≡ sentOf (wireOf f) output
+pub sent-frame : (f : Frame) (output : List ℕ) → length (f .payload) ≤ longestPayload → writeOf f output ≡ sentOf (goesOut f) output
 unfolding writeOf sentOf
 sent-frame f output h = rw (le-ltb longestPayload (length (f .payload)) h)
 
@@ -35,6 +35,6 @@ sent-laid message output h =
 
 -- So is a packet whose size is not over 1,024.
 pub sent-packet : (image : List ℕ) (size k : ℕ) (output : List ℕ) → size ≤ 1024
-    → writeOf (packetFrame image size k) output ≡ sentOf (wireOf (packetFrame image size k)) output
+    → writeOf (packetFrame image size k) output ≡ sentOf (goesOut (packetFrame image size k)) output
 sent-packet image size k output h =
     sent-frame (packetFrame image size k) output (omega (arith, h, length-packet image size k, piece-most image size k))

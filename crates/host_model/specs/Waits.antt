@@ -19,13 +19,19 @@ abbrev pub mostRepeats : ℕ
 mostRepeats = 3
 
 -- How long an answer is awaited: 1,000 ms, 5,000 for the notice.
+abbrev pub answerLimit : ℕ
+answerLimit = 1000
+
+abbrev pub noticeLimit : ℕ
+noticeLimit = 5000
+
 abbrev pub limitOf : Stage → ℕ
-limitOf Text = 1000
-limitOf (Asking rate) = 1000
-limitOf (Declaring rate) = 1000
-limitOf (Sending rate size number) = 1000
-limitOf (Noticing rate size) = 5000
-limitOf (Restarting rate size) = 1000
+limitOf Text = answerLimit
+limitOf (Asking rate) = answerLimit
+limitOf (Declaring rate) = answerLimit
+limitOf (Sending rate size number) = answerLimit
+limitOf (Noticing rate size) = noticeLimit
+limitOf (Restarting rate size) = answerLimit
 
 abbrev pub wait : Plan → Stage → ℕ → ℕ → Wait
 wait plan stage waited repeats = record { plan = plan; stage = stage; waited = waited; repeats = repeats }
@@ -35,10 +41,14 @@ abbrev pub firstStage : Start → Rate → Stage
 firstStage WithText rate = Text
 firstStage AtOnce rate = Asking rate
 
--- A waiting session has an image that a file may carry, has waited less than the limit and resent at most 3 times.
+-- What can be loaded: an image that a file may carry.
+abbrev pub loadable : Plan → ℕ → Bool
+loadable plan image = fitsFile (plan .kind) image
+
+-- A waiting session has an image that can be loaded, has waited less than the limit and resent at most 3 times.
 unfoldable pub waitFits : ℕ → Wait → Bool
 waitFits image w =
-    fitsFile (w .plan .kind) image
+    loadable (w .plan) image
     && (ltb (w .waited) (limitOf (w .stage)) && (leb (w .repeats) mostRepeats && stageFits (w .plan) image (w .stage)))
 
 -- An ended session arises with any length: a refused opening keeps the length that it was lent.

@@ -3,17 +3,20 @@ use Prim.Native.Nat.{ℕ, _≤_, _<_}
 use mathlib.Core.Bool.{true, false, not-eq-not}
 use mathlib.Core.List.{List}
 use mathlib.Core.Path.{_≡_}
+use native.Mathlib.Omega.{arith}
 use borrow.Author.Tests.{leb-true, le-leb, ltb-true, lt-ltb}
 use lib.Dec.{ltb, leb}
 use Rattle.octets.specs.Choice.{both}
-use Rattle.kinds.specs.Kinds.{fitsFile}
 use Rattle.kinds.specs.KindsLaws.{file-some}
 use Rattle.host_model.specs.Stages.{stageFits}
 use Rattle.host_model.specs.Answers.{frameMove, lineMove}
-use Rattle.host_model.specs.StagesLaws.{Small, SmallMove, stage-small}
+use Rattle.host_model.specs.StagesLaws.{Small, SmallMove, facts-rate, stage-small}
 use Rattle.host_model.specs.Moves.{fits-frame, fits-line, fits-small}
-use Rattle.host_model.specs.Waits.{mostRepeats, limitOf, firstStage, waitFits}
+use Rattle.host_model.specs.Waits.{mostRepeats, limitOf, firstStage, loadable, waitFits}
 use Rattle.host_model.specs.declared.plan.Rate.{Rate}
+use Rattle.host_model.specs.declared.plan.Plan.{Plan}
+use Rattle.host_model.specs.declared.plan.Stage.{Stage}
+use Rattle.host_model.specs.declared.plan.Stage.the-variants.{Text, Asking, Declaring, Sending, Noticing, Restarting}
 use Rattle.host_model.specs.declared.plan.Start.{Start}
 use Rattle.host_model.specs.declared.plan.Start.the-variants.{WithText, AtOnce}
 use Rattle.host_model.specs.declared.waits.Wait.{Wait}
@@ -23,11 +26,26 @@ pub first-small : (start : Start) (rate : Rate) → Small (firstStage start rate
 first-small WithText rate = tt
 first-small AtOnce rate = tt
 
+-- An opening begins at a stage that fits.
+pub first-fits : (plan : Plan) (image : ℕ) (start : Start) → plan .start ≡ start
+    → stageFits plan image (firstStage start (plan .first)) ≡ true
+first-fits plan image WithText e = rw e
+first-fits plan image AtOnce e = facts-rate (plan .first) (plan .first) (omega arith)
+
+-- A limit is 1 to 5,000 ms.
+pub limit-within : (stage : Stage) → (0 < limitOf stage) × (limitOf stage ≤ 5000)
+limit-within Text = omega arith
+limit-within (Asking rate) = omega arith
+limit-within (Declaring rate) = omega arith
+limit-within (Sending rate size number) = omega arith
+limit-within (Noticing rate size) = omega arith
+limit-within (Restarting rate size) = omega arith
+
 -- ---- a waiting session
 
--- Its image fits a file, it has waited less than the limit and resent at most 3 times, and its stage fits.
+-- Its image can be loaded, it has waited less than the limit and resent at most 3 times, and its stage fits.
 pub record WaitOf (image : ℕ) (w : Wait) : Type 0 where
-  pub fitting : fitsFile (w .plan .kind) image ≡ true
+  pub fitting : loadable (w .plan) image ≡ true
   pub short : w .waited < limitOf (w .stage)
   pub few : w .repeats ≤ mostRepeats
   pub staged : stageFits (w .plan) image (w .stage) ≡ true
@@ -36,7 +54,7 @@ pub record WaitOf (image : ℕ) (w : Wait) : Type 0 where
 pub wait-facts : (image : ℕ) (w : Wait) → waitFits image w ≡ true → WaitOf image w
 unfolding waitFits
 wait-facts image w h =
-    let first = both (fitsFile (w .plan .kind) image) _ h in
+    let first = both (loadable (w .plan) image) _ h in
     let second = both (ltb (w .waited) (limitOf (w .stage))) _ (first .1) in
     let third = both (leb (w .repeats) mostRepeats) _ (second .1) in
     record {
@@ -60,7 +78,7 @@ pub wait-no : (image : ℕ) (w : Wait) → (WaitOf image w → ⊥) → waitFits
 wait-no image w h = not-eq-not .0 (λ e. h (wait-facts image w e))
 
 -- Of one whose numbers are within their bounds the stage decides.
-pub wait-stage : (image : ℕ) (w : Wait) → fitsFile (w .plan .kind) image ≡ true → w .waited < limitOf (w .stage)
+pub wait-stage : (image : ℕ) (w : Wait) → loadable (w .plan) image ≡ true → w .waited < limitOf (w .stage)
     → w .repeats ≤ mostRepeats → waitFits image w ≡ stageFits (w .plan) image (w .stage)
 unfolding waitFits
 wait-stage image w fitting short few =

@@ -13,21 +13,19 @@ use Rattle.kinds.specs.KindsLaws.{file-some}
 use Rattle.kinds.specs.declared.Known.{Known}
 use Rattle.kinds.specs.declared.Known.the-variants.{Is, Unknown}
 use Rattle.host_model.specs.Stages.{stageFits}
-use Rattle.host_model.specs.Waits.{mostRepeats, limitOf, firstStage}
+use Rattle.host_model.specs.Waits.{mostRepeats, limitOf, loadable}
+use Rattle.host_model.specs.Nexts.{resendNext, timeNext, planNext}
 use Rattle.host.specs.Session.{session, arises}
-use Rattle.host_model.specs.StagesLaws.{facts-rate}
-use Rattle.host_model.specs.WaitsLaws.{WaitOf, wait-facts, facts-wait}
+use Rattle.host_model.specs.WaitsLaws.{first-fits, limit-within, WaitOf, wait-facts, facts-wait}
 use Rattle.host_model.specs.Answers.{frameMove, lineMove}
 use Rattle.host_model.specs.Moves.{FitsMove, fits-frame, fits-line}
-use Rattle.host.specs.Step.{Left, Wishes, sends, waitingOf, enters, resends, moved, timeStep, eventStep, phaseStep, stepOf}
+use Rattle.host.specs.Step.{Left, Wishes, sends, waitingOf, endedOf, performs, enters, resends, moved, timeStep, eventStep, phaseStep, stepOf}
 use Rattle.host.specs.Step.{planOf, planOpening, knownOpening, openingOf}
 use Rattle.host_promises.specs.Runs.{Given, leaves, afterOf}
 use Rattle.host_promises.specs.Promises.{ReachedArises}
-use Rattle.host_model.specs.declared.plan.Start.{Start}
-use Rattle.host_model.specs.declared.plan.Start.the-variants.{WithText, AtOnce}
 use Rattle.host_model.specs.declared.plan.Plan.{Plan}
 use Rattle.host_model.specs.declared.plan.Stage.{Stage}
-use Rattle.host_model.specs.declared.plan.Stage.the-variants.{Text, Asking, Declaring, Sending, Noticing, Restarting}
+use Rattle.host_model.specs.declared.nexts.Next.{Next}
 use Rattle.host_model.specs.declared.waits.Wait.{Wait}
 use Rattle.host_model.specs.declared.waits.Phase.{Phase}
 use Rattle.host_model.specs.declared.waits.Phase.the-variants.{Ended, Waiting}
@@ -71,15 +69,6 @@ stage-arises : (image : ℕ) (plan : Plan) (stage : Stage) (waited repeats : ℕ
 stage-arises image plan stage waited repeats fitting short few staged =
     wait-arises image _ (record { fitting = fitting; short = short; few = few; staged = staged })
 
--- A limit is 1 to 5,000 ms.
-pub limit-within : (stage : Stage) → (0 < limitOf stage) × (limitOf stage ≤ 5000)
-limit-within Text = omega arith
-limit-within (Asking rate) = omega arith
-limit-within (Declaring rate) = omega arith
-limit-within (Sending rate size number) = omega arith
-limit-within (Noticing rate size) = omega arith
-limit-within (Restarting rate size) = omega arith
-
 -- A stage that fits, entered with its message or not.
 enters-arises : (s : Session) (plan : Plan) (stage : Stage) (image output : List ℕ) → arises s ≡ true
     → fitsFile (plan .kind) (length image) ≡ true → stageFits plan (length image) stage ≡ true
@@ -90,9 +79,9 @@ enters-arises s plan stage image output a fitting staged =
 -- From a session that waits: a message sent again, a move, time.
 module _ (s : Session) (w : Wait) (image output : List ℕ) (a : arises s ≡ true) (f : WaitOf (length image) w) where
   resends-arises : Arisen (resends s w image output)
-  unfolding resends
+  unfolding resendNext
   resends-arises =
-      either-way Arisen (ltb (w .repeats) mostRepeats)
+      either-way (λ (n : Next). Arisen (performs s n image output)) (ltb (w .repeats) mostRepeats)
       (λ e.
       let few : w .repeats < mostRepeats = ltb-true (w .repeats) mostRepeats e in
       sends-arises s _ _ output a
@@ -110,9 +99,9 @@ module _ (s : Session) (w : Wait) (image output : List ℕ) (a : arises s ≡ tr
   moved-arises Finish h = ended-arises (length image)
 
   time-arises : (ms : ℕ) → Arisen (timeStep s w ms image output)
-  unfolding timeStep
+  unfolding timeNext
   time-arises ms =
-      either-way Arisen (ltb ms (limitOf (w .stage) - w .waited))
+      either-way (λ (n : Next). Arisen (performs s n image output)) (ltb ms (limitOf (w .stage) - w .waited))
       (λ e.
       let short : w .waited + ms < limitOf (w .stage) = omega (arith, ltb-true ms (limitOf (w .stage) - w .waited) e) in
       stage-arises (length image) (w .plan) (w .stage) (w .waited + ms) (w .repeats) (f .fitting) short (f .few) (f .staged))
@@ -146,17 +135,11 @@ step-arises s g a =
 
 -- ---- openings and runs
 
--- An opening begins at a stage that fits.
-pub first-fits : (plan : Plan) (image : ℕ) (start : Start) → plan .start ≡ start
-    → stageFits plan image (firstStage start (plan .first)) ≡ true
-first-fits plan image WithText e = rw e
-first-fits plan image AtOnce e = facts-rate (plan .first) (plan .first) (omega arith)
-
 -- Every opening leads to a session that arises, refused or not.
 plan-arises : (plan : Plan) (image output : List ℕ) → Arisen (planOpening plan image output)
-unfolding planOpening
+unfolding planNext
 plan-arises plan image output =
-    either-way Arisen (fitsFile (plan .kind) (length image))
+    either-way (λ (n : Next). Arisen (performs (endedOf (length image)) n image output)) (loadable plan (length image))
     (λ fitting. enters-arises _ plan _ image output (ended-arises (length image)) fitting
     (first-fits plan (length image) (plan .start) refl))
     (λ _. ended-arises (length image))

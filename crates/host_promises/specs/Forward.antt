@@ -20,6 +20,7 @@ use Rattle.commands.specs.Commands.{rateReply, parametersReply, packetReply, re
 use Rattle.commands.specs.Commands.{rateFrame, parametersFrame, packetFrame, restartFrame}
 use Rattle.host_model.specs.Stages.{numberOfRate, stageFits}
 use Rattle.host_model.specs.Waits.{mostRepeats, limitOf, wait, firstStage}
+use Rattle.host_model.specs.Nexts.{planNext}
 use Rattle.host.specs.Session.{session, stepped}
 use Rattle.host_model.specs.WaitsLaws.{WaitOf}
 use Rattle.host_model.specs.StagesLaws.{stage-small, sending-facts}
@@ -30,14 +31,15 @@ use Rattle.host_model.specs.Answers.{fitting, frameMove, lineMove}
 use Rattle.host_model.specs.AnswersLaws.{ack-accepted, rate-asked, Carried, size-begins, parameters-ack, packet-this, text-same}
 use Rattle.host_model.specs.AnswersLaws.{accepted-last, accepted-before}
 use Rattle.host.specs.Step.{Left, left, Wishes, sends, waitingOf, endedOf, enters, moved, eventStep}
-use Rattle.host.specs.Step.{planOf, planOpening, openingOf}
+use Rattle.host.specs.Step.{planOf, openingOf}
 use Rattle.commands.specs.CommandsLaws.{piece-most, length-packet, length-parameters}
 use Rattle.host_model.specs.StagesLaws.{Small}
 use Rattle.host.specs.StepLaws.{step-phase, sends-fits}
 use Rattle.host_promises.specs.Runs.{Given, leaves, sentBy}
 use Rattle.host_promises.specs.Promises.{Hears, HearsLine, line, frame, GoodStep}
 use Rattle.host_model.specs.Moves.{FitsMove, fits-frame, fits-line}
-use Rattle.host_promises.specs.Arises.{wait-arises, limit-within, first-fits}
+use Rattle.host_promises.specs.Arises.{wait-arises}
+use Rattle.host_model.specs.WaitsLaws.{limit-within, first-fits}
 use Rattle.host_model.specs.declared.plan.Rate.{Rate}
 use Rattle.host_model.specs.declared.plan.Start.{Start}
 use Rattle.host_model.specs.declared.plan.Plan.{Plan}
@@ -295,7 +297,7 @@ pub opening-sends : (kind : Kind) (w : Wishes) (image output : List ℕ) (start 
     (stepped (arrived (planOf kind w) image (firstStage start (w .first)))
     (Sent (length (messageOf (planOf kind w) image (firstStage start (w .first))))))
     (over (messageOf (planOf kind w) image (firstStage start (w .first))) output)
-unfolding openingOf planOpening
+unfolding openingOf planNext
 opening-sends kind w image output start e fits room =
     let plan = planOf kind w in
     rw (kind-of-number kind, fits)

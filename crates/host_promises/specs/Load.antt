@@ -24,7 +24,7 @@ use Rattle.host.specs.Step.{Left, Wishes, planOf, openingOf}
 use Rattle.host_promises.specs.Runs.{Given, leaves, sentBy, sentOver, answersOf}
 use Rattle.host_promises.specs.Promises.{piecesFrom, PiecesAreImage, Heard, frame, packetsHeard, framesHeard, startHeard}
 use Rattle.host_promises.specs.Promises.{GoodSteps, packetsSent, startSent, GoodLoad, GoodEnds}
-use Rattle.host_promises.specs.Arises.{first-fits}
+use Rattle.host_model.specs.WaitsLaws.{first-fits}
 use Rattle.host_promises.specs.Forward.{arrived, Fits, Leads, text-step, rate-step, parameters-step, packet-step, last-step, notice-step}
 use Rattle.host_promises.specs.Forward.{restart-step, opening-sends}
 use Rattle.host_model.specs.declared.plan.Rate.{Rate}

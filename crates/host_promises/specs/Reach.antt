@@ -20,6 +20,7 @@ use Rattle.wire.specs.Frame.{Frame}
 use Rattle.commands.specs.Commands.{accepted, wrongFirst, rateReply, parametersReply, packetReply, notice}
 use Rattle.host_model.specs.Stages.{numberOfRate, textFits, stageFits}
 use Rattle.host_model.specs.Waits.{mostRepeats, limitOf, wait, firstStage}
+use Rattle.host_model.specs.Nexts.{resendNext, timeNext}
 use Rattle.host.specs.Session.{session, arises}
 use Rattle.host_model.specs.StagesLaws.{rate-facts, facts-rate, SentOf, sent-facts, facts-sent, sending-facts, facts-sending}
 use Rattle.host_model.specs.StagesLaws.{stage-small}
@@ -28,10 +29,11 @@ use Rattle.commands.specs.Commands.{startAnswer}
 use Rattle.host_model.specs.Messages.{messageOf}
 use Rattle.host_model.specs.Answers.{lowerMove, pieceSize}
 use Rattle.host_model.specs.AnswersLaws.{ack-first}
-use Rattle.host.specs.Step.{Left, Wishes, waitingOf, endedOf, resends, timeStep, openingOf}
+use Rattle.host.specs.Step.{Left, Wishes, waitingOf, endedOf, timeStep, openingOf}
 use Rattle.host_promises.specs.Runs.{Given, leaves, afterOf}
 use Rattle.host_promises.specs.Promises.{line, frame, GoodStep, RealEvent, Real, AllReal, Reached, ArisesReached}
-use Rattle.host_promises.specs.Arises.{first-fits, arises-wait, limit-within}
+use Rattle.host_model.specs.WaitsLaws.{first-fits, limit-within}
+use Rattle.host_promises.specs.Arises.{arises-wait}
 use Rattle.host_promises.specs.Forward.{message-short, rate-answered, event-taken, arrived, Fits, fits-wait, Leads, frame-enters}
 use Rattle.host.specs.StepLaws.{sends-fits}
 use Rattle.host_promises.specs.Forward.{text-step, rate-step, parameters-step, packet-step, last-step, notice-step, opening-sends}
@@ -343,7 +345,7 @@ module _ (plan : Plan) (image : List ℕ) (real : Bytes image) (fits : fitsFile 
     late-resends : (repeats : ℕ) → repeats < mostRepeats
         → leaves (waitingOf (length image) plan stage 0 repeats) (stepGiven image (Elapsed (limitOf stage)) []) .session
         ≡ waitingOf (length image) plan stage 0 (repeats + 1)
-    unfolding timeStep resends
+    unfolding timeNext resendNext
     late-resends repeats few =
         let short = message-short plan image stage (stage-small plan (length image) stage staged) in
         ap (λ (l : Left). l .session) (time-taken repeats (limitOf stage) (omega (arith, few)))
@@ -353,7 +355,7 @@ module _ (plan : Plan) (image : List ℕ) (real : Bytes image) (fits : fitsFile 
     early-waits : (repeats ms : ℕ) → repeats ≤ mostRepeats → ms < limitOf stage
         → leaves (waitingOf (length image) plan stage 0 repeats) (stepGiven image (Elapsed ms) []) .session
         ≡ waitingOf (length image) plan stage ms repeats
-    unfolding timeStep
+    unfolding timeNext
     early-waits repeats ms few less =
         ap (λ (l : Left). l .session) (time-taken repeats ms few)
         ∙ rw (lt-ltb ms (limitOf stage - 0) (omega (arith, less)), zero-add ms)

@@ -31,7 +31,8 @@ use Rattle.host_model.specs.Answers.{noticeMove, fitting, whereFitting, frameMo
 use Rattle.host_model.specs.AnswersLaws.{ack-cases, accepted-last, fitting-facts, ack-accepted, ack-first, ack-second, ack-again}
 use Rattle.host_model.specs.AnswersLaws.{rate-asked, rate-none, size-begins, size-stops, parameters-ack}
 use Rattle.host_model.specs.AnswersLaws.{accepted-before, packet-this, packet-none, notice-good, notice-bad, text-same}
-use Rattle.host.specs.Step.{left, waitingOf, endedOf, sends, resends, moved, timeStep, eventStep}
+use Rattle.host.specs.Step.{left, waitingOf, endedOf, sends, performs, resends, moved, timeStep, eventStep}
+use Rattle.host_model.specs.NextsLaws.{resend-more, resend-enough, time-short, time-up}
 use Rattle.host.specs.StepLaws.{step-phase, sends-fits, sends-short}
 use Rattle.host_promises.specs.Runs.{Given, leaves}
 use Rattle.host_promises.specs.Promises.{Hears, HearsLine, PacketAccepted, accepts, same, Follows, started, agreed, lowered, declared}
@@ -54,6 +55,7 @@ use Rattle.host_model.specs.declared.events.Event.the-variants.{Line, Elapsed}
 use Rattle.host_model.specs.declared.events.Event.the-variants as event
 use Rattle.host_model.specs.declared.events.Answer.{Answer}
 use Rattle.host_model.specs.declared.events.Answer.the-variants.{Nothing, Sent, Refused}
+use Rattle.host_model.specs.declared.nexts.Next.{Next}
 use Rattle.host_model.specs.declared.answers.Move.{Move}
 use Rattle.host_model.specs.declared.answers.Move.the-variants.{Stay, Enter, Await, Resend, Refuse, TooMany, Finish}
 
@@ -289,25 +291,21 @@ resends-more : (s : Session) (w : Wait) (image output : List ℕ) → w .repeats
     ≡ sends s
     (stepped (waitingOf (length image) (w .plan) (w .stage) 0 (w .repeats + 1)) (Sent (length (messageOf (w .plan) image (w .stage)))))
     (messageOf (w .plan) image (w .stage)) output
-unfolding resends
-resends-more s w image output h = cond-yes _ _ _ (lt-ltb (w .repeats) mostRepeats h)
+resends-more s w image output h = ap (λ (n : Next). performs s n image output) (resend-more w h)
 
 resends-enough : (s : Session) (w : Wait) (image output : List ℕ) → mostRepeats ≤ w .repeats
     → resends s w image output ≡ left (stepped (endedOf (length image)) (Refused noAnswer)) output
-unfolding resends
-resends-enough s w image output h = cond-no _ _ _ (le-ltb (w .repeats) mostRepeats h)
+resends-enough s w image output h = ap (λ (n : Next). performs s n image output) (resend-enough w h)
 
 -- Time that is not up is counted, time that is up resends.
-time-short : (s : Session) (w : Wait) (ms : ℕ) (image output : List ℕ) → w .waited + ms < limitOf (w .stage)
+time-waits : (s : Session) (w : Wait) (ms : ℕ) (image output : List ℕ) → w .waited + ms < limitOf (w .stage)
     → timeStep s w ms image output
     ≡ left (stepped (waitingOf (length image) (w .plan) (w .stage) (w .waited + ms) (w .repeats)) Nothing) output
-unfolding timeStep
-time-short s w ms image output h = cond-yes _ _ _ (lt-ltb ms (limitOf (w .stage) - w .waited) (omega arith))
+time-waits s w ms image output h = ap (λ (n : Next). performs s n image output) (time-short w ms h)
 
-time-up : (s : Session) (w : Wait) (ms : ℕ) (image output : List ℕ) → limitOf (w .stage) ≤ w .waited + ms
+time-resends : (s : Session) (w : Wait) (ms : ℕ) (image output : List ℕ) → limitOf (w .stage) ≤ w .waited + ms
     → timeStep s w ms image output ≡ resends s w image output
-unfolding timeStep
-time-up s w ms image output h = cond-no _ _ _ (le-ltb ms (limitOf (w .stage) - w .waited) (omega arith))
+time-resends s w ms image output h = ap (λ (n : Next). performs s n image output) (time-up w ms h)
 
 -- ---- from the reason to the turn
 
@@ -354,10 +352,10 @@ module _ (s : Session) (w : Wait) (g : Given) where
   time-turn ms ev = go (decLt (w .waited + ms) (limitOf (w .stage)))
     where
       go : Dec (w .waited + ms < limitOf (w .stage)) → Turn s w g (timeStep s w ms (g .image) (g .output))
-      go (yes h) = waits ms ev h (time-short s w ms (g .image) (g .output) h)
+      go (yes h) = waits ms ev h (time-waits s w ms (g .image) (g .output) h)
       go (no h) =
           let up : limitOf (w .stage) ≤ w .waited + ms = omega arith in
-          rw (time-up s w ms (g .image) (g .output) up) (due-turn (late ms ev up))
+          rw (time-resends s w ms (g .image) (g .output) up) (due-turn (late ms ev up))
 
   -- Each event.
   event-turn : (e : Event) → g .event ≡ e → Bytes (g .bytes) → stageFits (w .plan) (length (g .image)) (w .stage) ≡ true
@@ -532,7 +530,7 @@ module _ {s : Session} {w : Wait} {g : Given} (a : Awaits s w g) where
   due-leaves (late ms ev up) =
       awaits-step
       ∙ ap (λ (v : Event). eventStep s w v (g .bytes) (g .image) (g .output)) ev
-      ∙ time-up s w ms (g .image) (g .output) up
+      ∙ time-resends s w ms (g .image) (g .output) up
   due-leaves (rate-again rate e h) =
       heard-rate rate (numberOfRate rate) notUnderstood Resend e h
       (rate-asked rate (numberOfRate rate) notUnderstood refl ∙ ack-again _ _ _)
@@ -617,6 +615,6 @@ every-reason s w g a = record {
   waited = λ ms e short.
       awaits-step a
       ∙ ap (λ (event : Event). eventStep s w event (g .bytes) (g .image) (g .output)) e
-      ∙ time-short s w ms (g .image) (g .output) short;
+      ∙ time-waits s w ms (g .image) (g .output) short;
   finished = λ r. restarted-leaves a r;
 }

@@ -28,7 +28,8 @@ use Rattle.host_model.specs.declared.plan.Stage.{Stage}
 use Rattle.host_model.specs.declared.plan.Stage.the-variants.{Text, Asking, Declaring, Sending, Noticing, Restarting}
 use Rattle.host.specs.Session.{session, arises}
 use Rattle.host_model.specs.WaitsLaws.{WaitOf}
-use Rattle.host_promises.specs.Arises.{arises-wait, limit-within}
+use Rattle.host_promises.specs.Arises.{arises-wait}
+use Rattle.host_model.specs.WaitsLaws.{limit-within}
 use Rattle.host_model.specs.declared.waits.Wait.{Wait}
 use Rattle.host_model.specs.declared.waits.Phase.{Phase}
 use Rattle.host_model.specs.declared.waits.Phase.the-variants.{Ended, Waiting}

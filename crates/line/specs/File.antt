@@ -10,7 +10,7 @@ use Rattle.octets.specs.Octets.{over}
 use Rattle.octets.specs.OctetsLaws.{take-over}
 use Rattle.octets.specs.Choice.{either-way}
 use Rattle.refusals.specs.Refusals.{noRoom, wrongImageLength}
-use Rattle.kinds.specs.Kinds.{numberOf, baseOf, fitsFile}
+use Rattle.kinds.specs.Kinds.{numberOf, baseOf}
 use Rattle.kinds.specs.KindsLaws.{kind-of-number}
 use Rattle.kinds.specs.declared.Kind.{Kind}
 use Rattle.wire.specs.Frame.{Frame}
@@ -22,12 +22,15 @@ use Rattle.module.specs.RunsLaws.{heard-nothing}
 use Rattle.module.specs.Runs.{heardIn}
 use Rattle.module.specs.declared.session.Event.the-variants as module-event
 use Rattle.module.specs.declared.session.Event as module-declared
-use Rattle.host_model.specs.Waits.{firstStage}
+use Rattle.host_model.specs.Waits.{firstStage, loadable}
+use Rattle.host_model.specs.Nexts.{planNext}
+use Rattle.host_model.specs.declared.nexts.Next.{Next}
 use Rattle.host.specs.Session.{stepped, arises}
 use Rattle.host_model.specs.Messages.{messageOf}
-use Rattle.host.specs.Step.{Wishes, Left, left, planOf, waitingOf, endedOf, sends, planOpening, openingOf}
+use Rattle.host.specs.Step.{Wishes, Left, left, planOf, waitingOf, endedOf, sends, performs, planOpening, openingOf}
 use Rattle.host_promises.specs.Runs.{sentBy, afterOf}
-use Rattle.host_promises.specs.Arises.{first-fits, reached-arises}
+use Rattle.host_model.specs.WaitsLaws.{first-fits}
+use Rattle.host_promises.specs.Arises.{reached-arises}
 use Rattle.host_promises.specs.Promises.{Hears}
 use Rattle.host_model.specs.declared.events.Event.{Event}
 use Rattle.host_model.specs.declared.events.Event.the-variants as host-event
@@ -180,9 +183,12 @@ module _ (kind : Kind) (w : Wishes) (image before : List ℕ) where
 
     plan-opened : (output : List ℕ) → arises (planOpening (planOf kind w) image output .session) ≡ true
         → Stand kind w image before (joined (planOpening (planOf kind w) image output) s before)
-    unfolding planOpening sends
+    unfolding planNext sends
     plan-opened output =
-        either-way (λ (x : Left). arises (x .session) ≡ true → Stand kind w image before (joined x s before)) (fitsFile kind (length image))
+        let stands : Next → Type 0 = λ n.
+        let x = performs (endedOf (length image)) n image output in
+        arises (x .session) ≡ true → Stand kind w image before (joined x s before) in
+        either-way stands (loadable (planOf kind w) (length image))
         (λ fits.
         let stage = firstStage (w .start) (w .first) in
         let message : List ℕ = messageOf (planOf kind w) image stage in

@@ -48,7 +48,7 @@ use Rattle.module.specs.declared.session.Session.{Session as ModuleSession}
 use Rattle.module.specs.declared.session.Event.the-variants as module-event
 use Rattle.host.specs.Step as host-step
 use Rattle.host.specs.Step.{Wishes, planOf, openingOf}
-use Rattle.host_promises.specs.Arises.{first-fits}
+use Rattle.host_model.specs.WaitsLaws.{first-fits}
 use Rattle.host.specs.Session as host-session
 use Rattle.host_promises.specs.Runs.{Given, leaves, sentBy}
 use Rattle.host_promises.specs.Promises.{frame, GoodStep}
