@@ -2,8 +2,8 @@
 ghost use mathlib.Core.List.{[]};
 ghost use mathlib.Core.Path.{_≡_};
 ghost use lib.ListN.{length};
-ghost use Rattle.host.specs.Session.{progressOf, phaseProgress, phaseRate, phaseRepeats};
-ghost use Rattle.host.specs.declared.session.Event.the-variants as Event;
+ghost use Rattle.host_model.specs.Views.{progressOf, phaseProgress, phaseRate, phaseRepeats};
+ghost use Rattle.host_model.specs.declared.events.Event.the-variants as Event;
 ghost use Rattle.kept_host.specs.Kept.{stands, sessionIn, lineNumber, opened, keptOpening, kept, keptStep};
 
 #[no_mangle]

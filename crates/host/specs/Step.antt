@@ -1,36 +1,36 @@
 -- What an opening and a step of the host answer and leave: the session, the answer, the output.
-use Prim.Native.Nat.{ℕ, _+_, _-_}
+use Prim.Native.Nat.{ℕ}
 use mathlib.Core.Bool.{cond}
 use mathlib.Core.List.{List}
 use lib.Dec.{eqb, ltb}
-use lib.ListN.{length, take}
+use lib.ListN.{length}
 use Rattle.octets.specs.Octets.{over}
-use Rattle.refusals.specs.Refusals.{noRoom, wrongLength, wrongType, wrongImageLength, wrongPieces, noAnswer}
-use Rattle.kinds.specs.Kinds.{kindOf, fitsFile}
+use Rattle.refusals.specs.Refusals.{noRoom, wrongLength, wrongType}
+use Rattle.kinds.specs.Kinds.{kindOf}
 use Rattle.kinds.specs.declared.Kind.{Kind}
 use Rattle.kinds.specs.declared.Known.{Known}
 use Rattle.kinds.specs.declared.Known.the-variants.{Is, Unknown}
-use Rattle.wire.specs.Frame.{wireOf}
 use Rattle.commands.specs.Commands.{restartFrame}
-use Rattle.host.specs.Session.{mostRepeats, limitOf, session, wait, stepped, firstStage, arises}
-use Rattle.host.specs.Messages.{messageOf}
-use Rattle.stages.specs.Answers.{frameMove, lineMove}
-use Rattle.stages.specs.declared.plan.Rate.{Rate}
-use Rattle.stages.specs.declared.plan.Start.{Start}
-use Rattle.stages.specs.declared.plan.Same.{Same}
-use Rattle.stages.specs.declared.plan.Plan.{Plan}
-use Rattle.stages.specs.declared.plan.Stage.{Stage}
-use Rattle.host.specs.declared.session.Wait.{Wait}
-use Rattle.host.specs.declared.session.Phase.{Phase}
-use Rattle.host.specs.declared.session.Phase.the-variants.{Ended, Waiting}
+use Rattle.host_model.specs.Waits.{wait}
+use Rattle.host_model.specs.Messages.{goesOut, messageOf}
+use Rattle.host_model.specs.Nexts.{resendNext, moveNext, timeNext, eventNext, planNext}
+use Rattle.host_model.specs.declared.plan.Rate.{Rate}
+use Rattle.host_model.specs.declared.plan.Start.{Start}
+use Rattle.host_model.specs.declared.plan.Same.{Same}
+use Rattle.host_model.specs.declared.plan.Plan.{Plan}
+use Rattle.host_model.specs.declared.plan.Stage.{Stage}
+use Rattle.host_model.specs.declared.answers.Move.{Move}
+use Rattle.host_model.specs.declared.waits.Wait.{Wait}
+use Rattle.host_model.specs.declared.waits.Phase.{Phase}
+use Rattle.host_model.specs.declared.waits.Phase.the-variants.{Ended, Waiting}
+use Rattle.host_model.specs.declared.events.Event.{Event}
+use Rattle.host_model.specs.declared.events.Answer.{Answer}
+use Rattle.host_model.specs.declared.events.Answer.the-variants.{Nothing, Sent, Refused, Failed}
+use Rattle.host_model.specs.declared.nexts.Next.{Next}
+use Rattle.host_model.specs.declared.nexts.Next.the-variants.{Stays, Waits, Sends, Ends, Fails}
+use Rattle.host.specs.Session.{session, stepped, arises}
 use Rattle.host.specs.declared.session.Session.{Session}
-use Rattle.host.specs.declared.session.Event.{Event}
-use Rattle.host.specs.declared.session.Event.the-variants.{Frame, Line, Elapsed}
-use Rattle.host.specs.declared.session.Answer.{Answer}
-use Rattle.host.specs.declared.session.Answer.the-variants.{Nothing, Sent, Done, Refused, Failed}
 use Rattle.host.specs.declared.session.Stepped.{Stepped}
-use Rattle.stages.specs.declared.answers.Move.{Move}
-use Rattle.stages.specs.declared.answers.Move.the-variants.{Stay, Enter, Await, Resend, Refuse, TooMany, Finish}
 
 -- All that an opening or a step leaves.
 pub record Left : Type 0 where
@@ -53,48 +53,34 @@ waitingOf image plan stage waited repeats = session image (Waiting (wait plan st
 abbrev pub endedOf : ℕ → Session
 endedOf image = session image Ended
 
--- A stage is entered with its message.
+-- What follows an event or an opening, performed: a message is sent, or none, and the session becomes what it then is. With 21 and 22
+-- the restart frame is sent, the module's byte passed on, and the session ends.
+abbrev pub performs : Session → Next → List ℕ → List ℕ → Left
+performs s Stays image output = left (stepped s Nothing) output
+performs s (Waits w) image output = left (stepped (session (length image) (Waiting w)) Nothing) output
+performs s (Sends w) image output =
+    sends s (stepped (session (length image) (Waiting w)) (Sent (length (messageOf (w .plan) image (w .stage)))))
+    (messageOf (w .plan) image (w .stage)) output
+performs s (Ends answer) image output = left (stepped (endedOf (length image)) answer) output
+performs s (Fails number passed) image output =
+    sends s (stepped (endedOf (length image)) (Failed number passed (length (goesOut restartFrame)))) (goesOut restartFrame) output
+
+-- A stage is entered with its message, and a message sent again.
 abbrev pub enters : Session → Plan → Stage → List ℕ → List ℕ → Left
-enters s plan stage image output =
-    sends s (stepped (waitingOf (length image) plan stage 0 0) (Sent (length (messageOf plan image stage)))) (messageOf plan image stage) output
+enters s plan stage image output = performs s (Sends (wait plan stage 0 0)) image output
 
--- The message of the stage is sent again, at most 3 times; then 20, and the session ends.
-unfoldable pub resends : Session → Wait → List ℕ → List ℕ → Left
-resends s w image output =
-    cond (ltb (w .repeats) mostRepeats)
-    (sends s
-    (stepped (waitingOf (length image) (w .plan) (w .stage) 0 (w .repeats + 1)) (Sent (length (messageOf (w .plan) image (w .stage)))))
-    (messageOf (w .plan) image (w .stage)) output)
-    (left (stepped (endedOf (length image)) (Refused noAnswer)) output)
+abbrev pub resends : Session → Wait → List ℕ → List ℕ → Left
+resends s w image output = performs s (resendNext w) image output
 
--- 21 and 22: the restart frame is sent, the module's byte passed on, the session ends.
-abbrev pub fails : Session → ℕ → ℕ → ℕ → List ℕ → Left
-fails s number passed image output =
-    sends s (stepped (endedOf image) (Failed number passed (length (wireOf restartFrame)))) (wireOf restartFrame) output
-
--- What a move leaves. Where the notice comes to be awaited, the last packet's repeats are counted on.
+-- An event in a session that waits: a move, milliseconds, either.
 abbrev pub moved : Session → Wait → Move → List ℕ → List ℕ → Left
-moved s w Stay image output = left (stepped s Nothing) output
-moved s w (Enter next) image output = enters s (w .plan) next image output
-moved s w (Await next) image output = left (stepped (waitingOf (length image) (w .plan) next 0 (w .repeats)) Nothing) output
-moved s w Resend image output = resends s w image output
-moved s w (Refuse number passed) image output = fails s number passed (length image) output
-moved s w TooMany image output = left (stepped (endedOf (length image)) (Refused wrongPieces)) output
-moved s w Finish image output = left (stepped (endedOf (length image)) Done) output
+moved s w move image output = performs s (moveNext w move) image output
 
--- Milliseconds: the time since the last sending or fitting answer is kept below the limit; once it reaches it, resend.
-unfoldable pub timeStep : Session → Wait → ℕ → List ℕ → List ℕ → Left
-timeStep s w ms image output =
-    cond (ltb ms (limitOf (w .stage) - w .waited))
-    (left (stepped (waitingOf (length image) (w .plan) (w .stage) (w .waited + ms) (w .repeats)) Nothing) output)
-    (resends s w image output)
+abbrev pub timeStep : Session → Wait → ℕ → List ℕ → List ℕ → Left
+timeStep s w ms image output = performs s (timeNext w ms) image output
 
--- An event at a stage. Payload and line are the first count bytes of the slice, or all of it where it is shorter.
 abbrev pub eventStep : Session → Wait → Event → List ℕ → List ℕ → List ℕ → Left
-eventStep s w (Frame command count) bytes image output =
-    moved s w (frameMove (w .plan) (length image) (w .stage) command (take count bytes)) image output
-eventStep s w (Line count) bytes image output = moved s w (lineMove (w .plan) (w .stage) (take count bytes)) image output
-eventStep s w (Elapsed ms) bytes image output = timeStep s w ms image output
+eventStep s w event bytes image output = performs s (eventNext w (length image) event bytes) image output
 
 abbrev pub phaseStep : Session → Phase → Event → List ℕ → List ℕ → List ℕ → Left
 phaseStep s Ended event bytes image output = left (stepped s Nothing) output
@@ -120,11 +106,9 @@ pub record Wishes : Type 0 where
 abbrev pub planOf : Kind → Wishes → Plan
 planOf kind w = record { kind = kind; first = w .first; wish = w .wish; start = w .start; same = w .same }
 
--- A refused opening gives an ended session that keeps the length: 8 for an image that no file carries, then 2.
-unfoldable pub planOpening : Plan → List ℕ → List ℕ → Left
-planOpening plan image output =
-    cond (fitsFile (plan .kind) (length image)) (enters (endedOf (length image)) plan (firstStage (plan .start) (plan .first)) image output)
-    (left (stepped (endedOf (length image)) (Refused wrongImageLength)) output)
+-- A refused opening gives an ended session that keeps the length: 8 for an image that cannot be loaded, then 2.
+abbrev pub planOpening : Plan → List ℕ → List ℕ → Left
+planOpening plan image output = performs (endedOf (length image)) (planNext plan (length image)) image output
 
 abbrev pub knownOpening : Known → Wishes → List ℕ → List ℕ → Left
 knownOpening (Is kind) w image output = planOpening (planOf kind w) image output

@@ -2,7 +2,7 @@
 use Prim.Native.Nat.{ℕ, _≤_, _<_}
 use mathlib.Core.Bool.{Bool, true, false, cond}
 use mathlib.Core.List.{List}
-use mathlib.Core.Path.{_≡_, sym, ap, _∙_}
+use mathlib.Core.Path.{_≡_, sym, ap, ap₂, _∙_}
 use native.Mathlib.Omega.{arith}
 use borrow.Author.Tests.{eq-eqb, ne-eqb, lt-ltb, le-ltb}
 use lib.Dec.{ltb}
@@ -13,25 +13,18 @@ use Rattle.refusals.specs.Refusals.{noRoom, wrongLength}
 use Rattle.refusals.specs.Written.{Out, refused, written, countOf, refusalOf}
 use Rattle.refusals.specs.declared.Written.{Written}
 use Rattle.refusals.specs.declared.Written.the-variants as writes
-use Rattle.stages.specs.StagesLaws.{Small}
-use Rattle.host.specs.Session.{stepped, firstStage, waitFits, arises}
-use Rattle.host.specs.Messages.{sentOf}
-use Rattle.host.specs.Step.{left, sends, phaseStep, stepOf}
-use Rattle.stages.specs.declared.plan.Rate.{Rate}
-use Rattle.stages.specs.declared.plan.Start.{Start}
-use Rattle.stages.specs.declared.plan.Start.the-variants.{WithText, AtOnce}
-use Rattle.host.specs.declared.session.Wait.{Wait}
-use Rattle.host.specs.declared.session.Phase.{Phase}
-use Rattle.host.specs.declared.session.Phase.the-variants.{Waiting}
+use Rattle.host.specs.Session.{stepped, arises}
+use Rattle.host_model.specs.Waits.{waitFits, phaseArises}
+use Rattle.host_model.specs.Nexts.{eventNext}
+use Rattle.host_model.specs.Messages.{sentOf}
+use Rattle.host.specs.Step.{left, sends, performs, phaseStep, stepOf}
+use Rattle.host_model.specs.declared.waits.Wait.{Wait}
+use Rattle.host_model.specs.declared.waits.Phase.{Phase}
+use Rattle.host_model.specs.declared.waits.Phase.the-variants.{Ended, Waiting}
 use Rattle.host.specs.declared.session.Session.{Session}
-use Rattle.host.specs.declared.session.Event.{Event}
-use Rattle.host.specs.declared.session.Answer.the-variants.{Nothing, Refused}
+use Rattle.host_model.specs.declared.events.Event.{Event}
+use Rattle.host_model.specs.declared.events.Answer.the-variants.{Nothing, Refused}
 use Rattle.host.specs.declared.session.Stepped.{Stepped}
-
--- A session begins at a small stage.
-pub first-small : (start : Start) (rate : Rate) → Small (firstStage start rate)
-first-small WithText rate = tt
-first-small AtOnce rate = tt
 
 -- ---- a message sent from a session
 
@@ -93,6 +86,30 @@ module _ (s : Session) (e : Event) (bytes image output : List ℕ) where
   unfolding stepOf
   step-phase l a phase told =
       rw (eq-eqb (length image) (s .image) l, a) (ap (λ (p : Phase). phaseStep s p e bytes image output) told)
+
+-- ---- a step by the phase and its numbers
+
+module _ (s : Session) (w : Wait) (image : List ℕ) (same : length image ≡ s .image) (told : s .phase ≡ Waiting w) where
+  -- A waiting session arises just where its numbers fit.
+  waits-arise : arises s ≡ waitFits (length image) w
+  unfolding arises
+  waits-arise = ap₂ phaseArises (sym same) told
+
+  -- Where they do, it takes the event; where they do not, it answers nothing.
+  pub step-waits : (e : Event) (bytes output : List ℕ) → waitFits (length image) w ≡ true
+      → stepOf s e bytes image output ≡ performs s (eventNext w (length image) e bytes) image output
+  step-waits e bytes output h = step-phase s e bytes image output same (waits-arise ∙ h) (Waiting w) told
+
+  pub step-never : (e : Event) (bytes output : List ℕ) → waitFits (length image) w ≡ false
+      → stepOf s e bytes image output ≡ left (stepped s Nothing) output
+  step-never e bytes output h = step-not-arisen s e bytes image output same (waits-arise ∙ h)
+
+-- An ended one answers nothing.
+pub step-ended : (s : Session) (e : Event) (bytes image output : List ℕ) → length image ≡ s .image → s .phase ≡ Ended
+    → stepOf s e bytes image output ≡ left (stepped s Nothing) output
+unfolding arises
+step-ended s e bytes image output same told =
+    step-phase s e bytes image output same (ap (phaseArises (s .image)) told) Ended told
 
 -- ---- room
 

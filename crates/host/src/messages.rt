@@ -1,13 +1,12 @@
 // What the host sends at each stage. Without room for all of it nothing is written.
 ghost use mathlib.Core.Path.{_≡_};
-ghost use Rattle.wire.specs.Frame.{wireOf};
 ghost use Rattle.commands.specs.Commands.{restartFrame};
 ghost use Rattle.commands.specs.Commands.{startText};
-ghost use Rattle.host.specs.Messages.{messageOf, sentOf};
-ghost use Rattle.stages.specs.StagesLaws.{Small};
+ghost use Rattle.host_model.specs.Messages.{goesOut, messageOf, sentOf};
+ghost use Rattle.host_model.specs.StagesLaws.{Small};
+use host_model::Plan;
+use host_model::Stage;
 use refusals::Written;
-use stages::Plan;
-use stages::Stage;
 use stages::rate_number;
 
 // The message of a stage.
@@ -30,7 +29,7 @@ pub(crate) fn send(plan: Plan, stage: Stage, image: &[u8], out: &mut [u8]) -> Wr
 }
 
 pub(crate) fn send_restart(out: &mut [u8]) -> Written
-    ensures { λ r. ⌜ record { answer = r; output = now (out .exit) } ≡ sentOf (wireOf restartFrame) (now (out .entry)) ⌝ }
+    ensures { λ r. ⌜ record { answer = r; output = now (out .exit) } ≡ sentOf (goesOut restartFrame) (now (out .entry)) ⌝ }
 {
     wire::write(commands::RESTART, &[], out)
 }

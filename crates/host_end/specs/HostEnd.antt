@@ -12,9 +12,9 @@ use Rattle.reader.specs.declared.steps.Heard.{Heard}
 use Rattle.reader.specs.declared.steps.Heard.the-variants.{Nothing, Frame, Dropped}
 use Rattle.host.specs.Step.{Left, stepOf}
 use Rattle.host.specs.declared.session.Session.{Session}
-use Rattle.host.specs.declared.session.Event.the-variants as event
-use Rattle.host.specs.declared.session.Answer.{Answer}
-use Rattle.host.specs.declared.session.Answer.the-variants as answer
+use Rattle.host_model.specs.declared.events.Event.the-variants as event
+use Rattle.host_model.specs.declared.events.Answer.{Answer}
+use Rattle.host_model.specs.declared.events.Answer.the-variants as answer
 use Rattle.host_end.specs.Text.{followed}
 use Rattle.host_end.specs.declared.end.HostEnd.{HostEnd}
 use Rattle.host_end.specs.declared.end.HostStep.{HostStep}

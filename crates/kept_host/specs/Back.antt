@@ -15,23 +15,24 @@ use Rattle.kinds.specs.declared.Known.the-variants.{Is}
 use Rattle.flat.specs.Words.{lowHalf, highHalf, spelledAll, recorded, standsFor}
 use Rattle.flat.specs.WordsLaws.{number-eight}
 use Rattle.flat.specs.Found.{recorded-over, recorded-stands}
-use Rattle.stages.specs.Stages.{numberOfRate, stageFits}
-use Rattle.stages.specs.StagesLaws.{sending-facts, sent-facts}
-use Rattle.stages.specs.declared.plan.Rate.{Rate}
-use Rattle.stages.specs.declared.plan.Rate.the-variants.{R9600, R19200, R38400, R57600, R115200}
-use Rattle.stages.specs.declared.plan.Start.{Start}
-use Rattle.stages.specs.declared.plan.Start.the-variants.{WithText, AtOnce}
-use Rattle.stages.specs.declared.plan.Same.{Same}
-use Rattle.stages.specs.declared.plan.Same.the-variants.{GoOn, Stop}
-use Rattle.stages.specs.declared.plan.Plan.{Plan}
-use Rattle.stages.specs.declared.plan.Stage.{Stage}
-use Rattle.stages.specs.declared.plan.Stage.the-variants.{Text, Asking, Declaring, Sending, Noticing, Restarting}
+use Rattle.host_model.specs.Stages.{numberOfRate, stageFits}
+use Rattle.host_model.specs.StagesLaws.{sending-facts, sent-facts}
+use Rattle.host_model.specs.declared.plan.Rate.{Rate}
+use Rattle.host_model.specs.declared.plan.Rate.the-variants.{R9600, R19200, R38400, R57600, R115200}
+use Rattle.host_model.specs.declared.plan.Start.{Start}
+use Rattle.host_model.specs.declared.plan.Start.the-variants.{WithText, AtOnce}
+use Rattle.host_model.specs.declared.plan.Same.{Same}
+use Rattle.host_model.specs.declared.plan.Same.the-variants.{GoOn, Stop}
+use Rattle.host_model.specs.declared.plan.Plan.{Plan}
+use Rattle.host_model.specs.declared.plan.Stage.{Stage}
+use Rattle.host_model.specs.declared.plan.Stage.the-variants.{Text, Asking, Declaring, Sending, Noticing, Restarting}
 use Rattle.host.specs.Session.{session, arises}
-use Rattle.host.specs.SessionLaws.{WaitOf}
-use Rattle.host.specs.Arises.{arises-wait, limit-within}
-use Rattle.host.specs.declared.session.Wait.{Wait}
-use Rattle.host.specs.declared.session.Phase.{Phase}
-use Rattle.host.specs.declared.session.Phase.the-variants.{Ended, Waiting}
+use Rattle.host_model.specs.WaitsLaws.{WaitOf}
+use Rattle.host_promises.specs.Arises.{arises-wait}
+use Rattle.host_model.specs.WaitsLaws.{limit-within}
+use Rattle.host_model.specs.declared.waits.Wait.{Wait}
+use Rattle.host_model.specs.declared.waits.Phase.{Phase}
+use Rattle.host_model.specs.declared.waits.Phase.the-variants.{Ended, Waiting}
 use Rattle.host.specs.declared.session.Session.{Session}
 use Rattle.kept_host.specs.Kept.{startNumber, sameNumber, stageWords, waitWords, endedWords, wordsOf}
 use Rattle.kept_host.specs.Kept.{rateIn, startIn, sameIn, stageOf, stageIn, planIn, phaseIn, fieldsIn, stands, sessionIn}

@@ -12,28 +12,29 @@ use Rattle.kinds.specs.declared.Known.{Known}
 use Rattle.kinds.specs.declared.Known.the-variants.{Is, Unknown}
 use Rattle.flat.specs.Answers.{nothing, written, done, unknown}
 use Rattle.flat.specs.Words.{lowHalf, highHalf, recorded, standsFor}
-use Rattle.stages.specs.Stages.{numberOfRate}
-use Rattle.stages.specs.declared.plan.Rate.{Rate}
-use Rattle.stages.specs.declared.plan.Rate.the-variants.{R9600, R19200, R38400, R57600, R115200}
-use Rattle.stages.specs.declared.plan.Start.{Start}
-use Rattle.stages.specs.declared.plan.Start.the-variants.{WithText, AtOnce}
-use Rattle.stages.specs.declared.plan.Same.{Same}
-use Rattle.stages.specs.declared.plan.Same.the-variants.{GoOn, Stop}
-use Rattle.stages.specs.declared.plan.Plan.{Plan}
-use Rattle.stages.specs.declared.plan.Stage.{Stage}
-use Rattle.stages.specs.declared.plan.Stage.the-variants.{Text, Asking, Declaring, Sending, Noticing, Restarting}
-use Rattle.host.specs.Session.{session, wait, stepped, arises}
+use Rattle.host_model.specs.Stages.{numberOfRate}
+use Rattle.host_model.specs.declared.plan.Rate.{Rate}
+use Rattle.host_model.specs.declared.plan.Rate.the-variants.{R9600, R19200, R38400, R57600, R115200}
+use Rattle.host_model.specs.declared.plan.Start.{Start}
+use Rattle.host_model.specs.declared.plan.Start.the-variants.{WithText, AtOnce}
+use Rattle.host_model.specs.declared.plan.Same.{Same}
+use Rattle.host_model.specs.declared.plan.Same.the-variants.{GoOn, Stop}
+use Rattle.host_model.specs.declared.plan.Plan.{Plan}
+use Rattle.host_model.specs.declared.plan.Stage.{Stage}
+use Rattle.host_model.specs.declared.plan.Stage.the-variants.{Text, Asking, Declaring, Sending, Noticing, Restarting}
+use Rattle.host.specs.Session.{session, stepped, arises}
+use Rattle.host_model.specs.Waits.{wait}
 use Rattle.host.specs.Step.{Left, left, Wishes, stepOf, endedOf, openingOf}
-use Rattle.host.specs.Runs.{countIn}
-use Rattle.host.specs.declared.session.Wait.{Wait}
-use Rattle.host.specs.declared.session.Phase.{Phase}
-use Rattle.host.specs.declared.session.Phase.the-variants.{Ended, Waiting}
+use Rattle.host_model.specs.Events.{countIn}
+use Rattle.host_model.specs.declared.waits.Wait.{Wait}
+use Rattle.host_model.specs.declared.waits.Phase.{Phase}
+use Rattle.host_model.specs.declared.waits.Phase.the-variants.{Ended, Waiting}
 use Rattle.host.specs.declared.session.Session.{Session}
-use Rattle.host.specs.declared.session.Event.{Event}
-use Rattle.host.specs.declared.session.Answer.{Answer}
-use Rattle.host.specs.declared.session.Answer.the-variants.{Nothing, Sent, Done, Refused, Failed}
-use Rattle.host.specs.declared.session.LineRate.{LineRate}
-use Rattle.host.specs.declared.session.LineRate.the-variants.{AsItWas, Agreed}
+use Rattle.host_model.specs.declared.events.Event.{Event}
+use Rattle.host_model.specs.declared.events.Answer.{Answer}
+use Rattle.host_model.specs.declared.events.Answer.the-variants.{Nothing, Sent, Done, Refused, Failed}
+use Rattle.host_model.specs.declared.views.LineRate.{LineRate}
+use Rattle.host_model.specs.declared.views.LineRate.the-variants.{AsItWas, Agreed}
 use Rattle.kept_host.specs.declared.words.Staged.{Staged}
 use Rattle.kept_host.specs.declared.answers.Told.{Told}
 

@@ -10,10 +10,10 @@ use Rattle.flat.specs.WordsLaws.{length-spelled-all}
 use Rattle.flat.specs.Found.{recorded-alone}
 use Rattle.host.specs.Session.{session}
 use Rattle.host.specs.Step.{Left, left, stepOf}
-use Rattle.host.specs.declared.session.Phase.{Phase}
-use Rattle.host.specs.declared.session.Phase.the-variants.{Ended, Waiting}
+use Rattle.host_model.specs.declared.waits.Phase.{Phase}
+use Rattle.host_model.specs.declared.waits.Phase.the-variants.{Ended, Waiting}
 use Rattle.host.specs.declared.session.Session.{Session}
-use Rattle.host.specs.declared.session.Event.{Event}
+use Rattle.host_model.specs.declared.events.Event.{Event}
 use Rattle.host.specs.declared.session.Stepped.{Stepped}
 use Rattle.kept_host.specs.Kept.{wordsOf, phaseWords, fieldsIn, sessionIn, keptOf, toldOf, kept, keptAs, keptStep, opened, openedAs}
 use Rattle.kept_host.specs.declared.answers.Told.{Told}

@@ -6,12 +6,12 @@ use mathlib.Core.Path.{_≡_}
 use lib.ListN.{length}
 use Rattle.flat.specs.Words.{recorded}
 use Rattle.flat.specs.Calls.{callsBy, bytesBy}
-use Rattle.stages.specs.Stages.{numberOfRate}
+use Rattle.host_model.specs.Stages.{numberOfRate}
 use Rattle.host.specs.Session.{arises}
 use Rattle.host.specs.Step.{Wishes, openingOf}
-use Rattle.host.specs.Runs.{Given, leaves, afterOf}
-use Rattle.host.specs.declared.session.Phase.{Phase}
-use Rattle.host.specs.declared.session.Phase.the-variants.{Ended, Waiting}
+use Rattle.host_promises.specs.Runs.{Given, leaves, afterOf}
+use Rattle.host_model.specs.declared.waits.Phase.{Phase}
+use Rattle.host_model.specs.declared.waits.Phase.the-variants.{Ended, Waiting}
 use Rattle.host.specs.declared.session.Session.{Session}
 use Rattle.kept_host.specs.Kept.{startNumber, sameNumber, wordsOf, stands, sessionIn, Kept, keptAs, keptStep, Opened, openedAs, keptOpening}
 

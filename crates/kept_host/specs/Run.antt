@@ -8,31 +8,34 @@ use borrow.Author.Tests.{eqb-true, le-ltb}
 use lib.Dec.{eqb, leb, ltb}
 use lib.ListN.{length, take}
 use Rattle.octets.specs.Choice.{either-way, cond-yes, cond-no}
-use Rattle.kinds.specs.Kinds.{kindOf, fitsFile}
+use Rattle.kinds.specs.Kinds.{kindOf}
 use Rattle.kinds.specs.declared.Known.{Known}
 use Rattle.kinds.specs.declared.Known.the-variants.{Is, Unknown}
 use Rattle.flat.specs.Words.{recorded}
-use Rattle.stages.specs.Stages.{numberOfRate}
-use Rattle.stages.specs.Answers.{frameMove, lineMove}
-use Rattle.stages.specs.declared.answers.Move.{Move}
-use Rattle.stages.specs.declared.answers.Move.the-variants.{Stay, Enter, Await, Resend, Refuse, TooMany, Finish}
-use Rattle.stages.specs.declared.plan.Rate.{Rate}
-use Rattle.stages.specs.declared.plan.Rate.the-variants.{R9600, R19200, R38400, R57600, R115200}
-use Rattle.stages.specs.declared.plan.Start.{Start}
-use Rattle.stages.specs.declared.plan.Start.the-variants.{WithText, AtOnce}
-use Rattle.stages.specs.declared.plan.Same.{Same}
-use Rattle.stages.specs.declared.plan.Same.the-variants.{GoOn, Stop}
-use Rattle.host.specs.Session.{mostRepeats, limitOf, arises}
-use Rattle.host.specs.Step.{Left, Wishes, sends, endedOf, resends, moved, timeStep, eventStep, phaseStep, stepOf}
-use Rattle.host.specs.Step.{planOpening, knownOpening, openingOf}
-use Rattle.host.specs.Runs.{Given, leaves, afterOf}
-use Rattle.host.specs.Arises.{step-arises, reached-arises}
-use Rattle.host.specs.declared.session.Wait.{Wait}
-use Rattle.host.specs.declared.session.Phase.{Phase}
-use Rattle.host.specs.declared.session.Phase.the-variants.{Ended, Waiting}
+use Rattle.host_model.specs.Stages.{numberOfRate}
+use Rattle.host_model.specs.Answers.{frameMove, lineMove}
+use Rattle.host_model.specs.declared.answers.Move.{Move}
+use Rattle.host_model.specs.declared.answers.Move.the-variants.{Stay, Enter, Await, Resend, Refuse, TooMany, Finish}
+use Rattle.host_model.specs.declared.plan.Rate.{Rate}
+use Rattle.host_model.specs.declared.plan.Rate.the-variants.{R9600, R19200, R38400, R57600, R115200}
+use Rattle.host_model.specs.declared.plan.Start.{Start}
+use Rattle.host_model.specs.declared.plan.Start.the-variants.{WithText, AtOnce}
+use Rattle.host_model.specs.declared.plan.Same.{Same}
+use Rattle.host_model.specs.declared.plan.Same.the-variants.{GoOn, Stop}
+use Rattle.host_model.specs.Waits.{mostRepeats, limitOf, loadable}
+use Rattle.host_model.specs.Nexts.{resendNext, timeNext, planNext}
+use Rattle.host.specs.Session.{arises}
+use Rattle.host.specs.Step.{Left, Wishes, sends, endedOf, performs, resends, moved, timeStep, eventStep, phaseStep, stepOf}
+use Rattle.host.specs.Step.{planOf, knownOpening, openingOf}
+use Rattle.host_promises.specs.Runs.{Given, leaves, afterOf}
+use Rattle.host_promises.specs.Arises.{step-arises, reached-arises}
+use Rattle.host_model.specs.declared.nexts.Next.{Next}
+use Rattle.host_model.specs.declared.waits.Wait.{Wait}
+use Rattle.host_model.specs.declared.waits.Phase.{Phase}
+use Rattle.host_model.specs.declared.waits.Phase.the-variants.{Ended, Waiting}
 use Rattle.host.specs.declared.session.Session.{Session}
-use Rattle.host.specs.declared.session.Event.{Event}
-use Rattle.host.specs.declared.session.Event.the-variants.{Frame, Line, Elapsed}
+use Rattle.host_model.specs.declared.events.Event.{Event}
+use Rattle.host_model.specs.declared.events.Event.the-variants.{Frame, Line, Elapsed}
 use Rattle.host.specs.declared.session.Stepped.{Stepped}
 use Rattle.kept_host.specs.Kept.{startNumber, sameNumber, wordsOf, rateIn, startIn, sameIn, keptOf, Kept, keptAs, keptStep}
 use Rattle.kept_host.specs.Kept.{Opened, openedAs, wishesKnown, wishesIn, openingBy, keptOpening}
@@ -59,9 +62,9 @@ sends-real s next message output r h = either-way RealLeft (ltb (length output) 
 -- From a session that waits: a message sent again, a move, time.
 module _ (s : Session) (w : Wait) (image output : List ℕ) (r : Real s) (short : length image < 2 ^ 64) (wish : w .plan .wish < 2 ^ 64) where
   resends-real : RealLeft (resends s w image output)
-  unfolding resends
+  unfolding resendNext
   resends-real =
-      either-way RealLeft (ltb (w .repeats) mostRepeats)
+      either-way (λ (n : Next). RealLeft (performs s n image output)) (ltb (w .repeats) mostRepeats)
       (λ _. sends-real s _ _ output r (record { image-real = short; wish-real = wish }))
       (λ _. ended-real (length image) short)
 
@@ -75,9 +78,9 @@ module _ (s : Session) (w : Wait) (image output : List ℕ) (r : Real s) (short 
   moved-real Finish = ended-real (length image) short
 
   time-real : (ms : ℕ) → RealLeft (timeStep s w ms image output)
-  unfolding timeStep
+  unfolding timeNext
   time-real ms =
-      either-way RealLeft (ltb ms (limitOf (w .stage) - w .waited))
+      either-way (λ (n : Next). RealLeft (performs s n image output)) (ltb ms (limitOf (w .stage) - w .waited))
       (λ _. record { image-real = short; wish-real = wish })
       (λ _. resends-real)
 
@@ -105,9 +108,9 @@ step-real s g r =
 -- An opening.
 known-real : (known : Known) (w : Wishes) (image output : List ℕ) → length image < 2 ^ 64 → w .wish < 2 ^ 64
     → RealLeft (knownOpening known w image output)
-unfolding planOpening
+unfolding planNext
 known-real (Is kind) w image output short wish =
-    either-way RealLeft (fitsFile kind (length image))
+    either-way (λ (n : Next). RealLeft (performs (endedOf (length image)) n image output)) (loadable (planOf kind w) (length image))
     (λ _. sends-real _ _ _ output (ended-real (length image) short) (record { image-real = short; wish-real = wish }))
     (λ _. ended-real (length image) short)
 known-real Unknown w image output short wish = ended-real (length image) short

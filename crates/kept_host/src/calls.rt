@@ -2,7 +2,7 @@
 ghost use mathlib.Core.Path.{_≡_};
 ghost use mathlib.Core.List.{[]};
 ghost use lib.ListN.{length};
-ghost use Rattle.host.specs.Session.{progressOf, phaseProgress, phaseRate, phaseRepeats};
+ghost use Rattle.host_model.specs.Views.{progressOf, phaseProgress, phaseRate, phaseRepeats};
 ghost use Rattle.kept_host.specs.Kept.{sessionIn, lineNumber, kept, keptStep};
 use crate::answers::line_number;
 use crate::answers::told_of;

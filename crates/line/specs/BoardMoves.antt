@@ -20,8 +20,8 @@ use Rattle.pieces.specs.PiecesLaws.{within, length-piece, size-before, size-las
 use Rattle.wire.specs.Frame.{Frame}
 use Rattle.commands.specs.Commands.{largestPacket, largestTotal, parametersCommand, packetCommand, accepted, parametersReply, notice}
 use Rattle.commands.specs.Commands.{parametersFor, packetFor}
-use Rattle.stages.specs.declared.plan.Stage.{Stage}
-use Rattle.stages.specs.declared.plan.Stage.the-variants.{Text, Asking, Declaring, Sending, Noticing, Restarting}
+use Rattle.host_model.specs.declared.plan.Stage.{Stage}
+use Rattle.host_model.specs.declared.plan.Stage.the-variants.{Text, Asking, Declaring, Sending, Noticing, Restarting}
 use Rattle.module_model.specs.Phases.{openable, totalOf}
 use Rattle.module.specs.Session.{openingOf}
 use Rattle.module_model.specs.Rules.{dataIn, placeOf}
@@ -38,8 +38,8 @@ use Rattle.module.specs.declared.session.Stepped.{Stepped}
 use Rattle.module_model.specs.declared.events.Event.{Event}
 use Rattle.module_model.specs.declared.events.Event.the-variants as event
 use Rattle.host.specs.Step.{Wishes}
-use Rattle.host.specs.declared.session.Phase as host-phase
-use Rattle.host.specs.declared.session.Phase.the-variants as host-at
+use Rattle.host_model.specs.declared.waits.Phase as host-phase
+use Rattle.host_model.specs.declared.waits.Phase.the-variants as host-at
 use Rattle.line.specs.Joined.{Joined, boardTakes, boardOpens}
 use Rattle.line.specs.Filled.{Filled, Kept, fills-same, fills-more, keeps-more}
 use Rattle.line.specs.Stand.{HostFrame, rate, parameters, packet, restart, sizeOf, countedOf, StageStands, HostStands, Ours, filledTo, Stand}

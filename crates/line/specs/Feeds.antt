@@ -7,7 +7,7 @@ use Rattle.pieces.specs.Pieces.{countOf}
 use Rattle.wire.specs.Frame.{wireOf}
 use Rattle.commands.specs.Commands.{parametersFrame}
 use Rattle.module.specs.Step.{smallestReply}
-use Rattle.host.specs.Promises.{packetsSent}
+use Rattle.host_promises.specs.Promises.{packetsSent}
 use Rattle.board_end.specs.Board.{BoardLeft, boardHears}
 use Rattle.board_end.specs.declared.board.Board.{Board}
 

@@ -10,28 +10,30 @@ use Rattle.octets.specs.Octets.{over}
 use Rattle.octets.specs.OctetsLaws.{take-over}
 use Rattle.octets.specs.Choice.{either-way}
 use Rattle.refusals.specs.Refusals.{noRoom, wrongImageLength}
-use Rattle.kinds.specs.Kinds.{numberOf, baseOf, fitsFile}
+use Rattle.kinds.specs.Kinds.{numberOf, baseOf}
 use Rattle.kinds.specs.KindsLaws.{kind-of-number}
 use Rattle.kinds.specs.declared.Kind.{Kind}
 use Rattle.wire.specs.Frame.{Frame}
 use Rattle.commands.specs.Commands.{notice}
-use Rattle.stages.specs.declared.plan.Rate.{Rate}
-use Rattle.stages.specs.declared.plan.Start.{Start}
-use Rattle.stages.specs.declared.plan.Start.the-variants.{WithText, AtOnce}
+use Rattle.host_model.specs.declared.plan.Rate.{Rate}
+use Rattle.host_model.specs.declared.plan.Start.{Start}
+use Rattle.host_model.specs.declared.plan.Start.the-variants.{WithText, AtOnce}
 use Rattle.module_promises.specs.RunsLaws.{heard-nothing}
 use Rattle.module_promises.specs.Runs.{heardIn}
 use Rattle.module_model.specs.declared.events.Event.the-variants as module-event
 use Rattle.module_model.specs.declared.events.Event as module-declared
-use Rattle.host.specs.Session.{firstStage, stepped, arises}
-use Rattle.host.specs.Messages.{messageOf}
+use Rattle.host_model.specs.Waits.{firstStage}
+use Rattle.host.specs.Session.{stepped, arises}
+use Rattle.host_model.specs.Messages.{messageOf}
 use Rattle.host.specs.Step.{Wishes, Left, left, planOf, waitingOf, endedOf, sends, planOpening, openingOf}
-use Rattle.host.specs.Runs.{sentBy, afterOf}
-use Rattle.host.specs.Arises.{first-fits, reached-arises}
-use Rattle.host.specs.Promises.{Hears}
-use Rattle.host.specs.declared.session.Event.{Event}
-use Rattle.host.specs.declared.session.Event.the-variants as host-event
-use Rattle.host.specs.declared.session.Answer.the-variants.{Done, Sent, Refused}
-use Rattle.host.specs.declared.session.Phase.the-variants.{Waiting}
+use Rattle.host_promises.specs.Runs.{sentBy, afterOf}
+use Rattle.host_model.specs.WaitsLaws.{first-fits}
+use Rattle.host_promises.specs.Arises.{reached-arises}
+use Rattle.host_promises.specs.Promises.{Hears}
+use Rattle.host_model.specs.declared.events.Event.{Event}
+use Rattle.host_model.specs.declared.events.Event.the-variants as host-event
+use Rattle.host_model.specs.declared.events.Answer.the-variants.{Done, Sent, Refused}
+use Rattle.host_model.specs.declared.waits.Phase.the-variants.{Waiting}
 use Rattle.line.specs.Joined.{ModuleSession, Joined, Move, board-hears, board-waits, board-opens, host-hears, host-reads, host-waits}
 use Rattle.line.specs.Joined.{May, hostLeaves, after, afterAll, Allowed, joined}
 use Rattle.line.specs.Promises.{HasNotice, InFlash, FileInFlash}
@@ -179,9 +181,12 @@ module _ (kind : Kind) (w : Wishes) (image before : List ℕ) where
 
     plan-opened : (output : List ℕ) → arises (planOpening (planOf kind w) image output .session) ≡ true
         → Stand kind w image before (joined (planOpening (planOf kind w) image output) s before)
-    unfolding planOpening sends
+    unfolding planNext sends
     plan-opened output =
-        either-way (λ (x : Left). arises (x .session) ≡ true → Stand kind w image before (joined x s before)) (fitsFile kind (length image))
+        let stands : Next → Type 0 = λ n.
+        let x = performs (endedOf (length image)) n image output in
+        arises (x .session) ≡ true → Stand kind w image before (joined x s before) in
+        either-way stands (loadable (planOf kind w) (length image))
         (λ fits.
         let stage = firstStage (w .start) (w .first) in
         let message : List ℕ = messageOf (planOf kind w) image stage in

@@ -19,31 +19,32 @@ use Rattle.reader.specs.SeenLaws.{fresh-handed}
 use Rattle.commands.specs.Commands.{startText}
 use Rattle.commands.specs.Commands.{rateFrame, parametersFrame, packetFrame, restartFrame}
 use Rattle.commands.specs.CommandsLaws.{length-parameters}
-use Rattle.stages.specs.Stages.{numberOfRate, stageFits}
-use Rattle.stages.specs.StagesLaws.{SizeOf, sending-facts, sent-facts}
-use Rattle.stages.specs.declared.plan.Plan.{Plan}
-use Rattle.stages.specs.declared.plan.Stage.{Stage}
-use Rattle.stages.specs.declared.plan.Stage.the-variants.{Text, Asking, Declaring, Sending, Noticing, Restarting}
+use Rattle.host_model.specs.Stages.{numberOfRate, stageFits}
+use Rattle.host_model.specs.StagesLaws.{SizeOf, sending-facts, sent-facts}
+use Rattle.host_model.specs.declared.plan.Plan.{Plan}
+use Rattle.host_model.specs.declared.plan.Stage.{Stage}
+use Rattle.host_model.specs.declared.plan.Stage.the-variants.{Text, Asking, Declaring, Sending, Noticing, Restarting}
 use Rattle.module.specs.Step.{wiresOf}
 use Rattle.module_promises.specs.Runs.{heardIn}
 use Rattle.module_promises.specs.RunsLaws.{heard-wires, heard-nothing}
 use Rattle.host.specs.Session.{stepped, arises}
-use Rattle.host.specs.SessionLaws.{WaitOf, wait-facts}
-use Rattle.host.specs.Messages.{messageOf}
+use Rattle.host_model.specs.WaitsLaws.{WaitOf, wait-facts}
+use Rattle.host_model.specs.Messages.{messageOf}
 use Rattle.host.specs.Step.{Wishes, Left, left, planOf, waitingOf}
 use Rattle.host.specs.StepLaws.{arisen, step-phase}
-use Rattle.host.specs.Runs.{Given, leaves, countIn, sentBy}
-use Rattle.host.specs.Arises.{step-arises, arises-wait}
-use Rattle.host.specs.Turns.{every-turn}
-use Rattle.host.specs.Promises.{Hears, Follows, started, agreed, lowered, declared, continued, noticed}
-use Rattle.host.specs.Promises.{Awaits, Message, again, onward, restart, Turn, sends, no-room, gives-up, too-many, awaits, finishes, waits, passed-over}
-use Rattle.host.specs.declared.session.Wait.{Wait}
-use Rattle.host.specs.declared.session.Phase.{Phase}
-use Rattle.host.specs.declared.session.Phase.the-variants.{Ended, Waiting}
+use Rattle.host_promises.specs.Runs.{Given, leaves, sentBy}
+use Rattle.host_model.specs.Events.{countIn}
+use Rattle.host_promises.specs.Arises.{step-arises, arises-wait}
+use Rattle.host_promises.specs.Turns.{every-turn}
+use Rattle.host_promises.specs.Promises.{Hears, Follows, started, agreed, lowered, declared, continued, noticed}
+use Rattle.host_promises.specs.Promises.{Awaits, Message, again, onward, restart, Turn, sends, no-room, gives-up, too-many, awaits, finishes, waits, passed-over}
+use Rattle.host_model.specs.declared.waits.Wait.{Wait}
+use Rattle.host_model.specs.declared.waits.Phase.{Phase}
+use Rattle.host_model.specs.declared.waits.Phase.the-variants.{Ended, Waiting}
 use Rattle.host.specs.declared.session.Session.{Session}
-use Rattle.host.specs.declared.session.Event.{Event}
-use Rattle.host.specs.declared.session.Answer.{Answer}
-use Rattle.host.specs.declared.session.Answer.the-variants.{Nothing, Done}
+use Rattle.host_model.specs.declared.events.Event.{Event}
+use Rattle.host_model.specs.declared.events.Answer.{Answer}
+use Rattle.host_model.specs.declared.events.Answer.the-variants.{Nothing, Done}
 use Rattle.line.specs.Joined.{Joined, hostTakes}
 use Rattle.line.specs.TransferLaws.{packet-short}
 use Rattle.line.specs.Lossless.{isDone}

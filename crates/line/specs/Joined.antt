@@ -11,10 +11,10 @@ use Rattle.module_promises.specs.Runs as module-runs
 use Rattle.module.specs.declared.session.Session as module-declared
 use Rattle.module_model.specs.declared.events.Event.the-variants as module-event
 use Rattle.host.specs.Step as host-step
-use Rattle.host.specs.Runs as host-runs
+use Rattle.host_promises.specs.Runs as host-runs
 use Rattle.host.specs.declared.session.Session as host-declared
-use Rattle.host.specs.declared.session.Event.the-variants as host-event
-use Rattle.host.specs.declared.session.Answer.the-variants.{Nothing}
+use Rattle.host_model.specs.declared.events.Event.the-variants as host-event
+use Rattle.host_model.specs.declared.events.Answer.the-variants.{Nothing}
 use Rattle.line.specs.Steps.{afterEach, EachMay}
 
 abbrev pub ModuleSession : Type 0

@@ -18,16 +18,16 @@ use Rattle.wire.specs.Frame.{Frame, longestPayload, wireOf}
 use Rattle.commands.specs.Commands.{startAnswer, largestPacket, largestTotal, accepted, packetCommand, packetFor}
 use Rattle.commands.specs.Commands.{rateReply, parametersReply, packetReply, restartReply, notice}
 use Rattle.commands.specs.Commands.{rateFrame, parametersFrame, packetFrame, restartFrame}
-use Rattle.stages.specs.Stages.{numberOfRate}
-use Rattle.stages.specs.Answers.{pieceSize}
-use Rattle.stages.specs.AnswersLaws.{piece-packet}
-use Rattle.stages.specs.declared.plan.Rate.{Rate}
-use Rattle.stages.specs.declared.plan.Rate.the-variants.{R9600, R19200, R38400, R57600, R115200}
-use Rattle.stages.specs.declared.plan.Start.{Start}
-use Rattle.stages.specs.declared.plan.Start.the-variants.{WithText, AtOnce}
-use Rattle.stages.specs.declared.plan.Plan.{Plan}
-use Rattle.stages.specs.declared.plan.Stage.{Stage}
-use Rattle.stages.specs.declared.plan.Stage.the-variants.{Asking, Declaring, Sending, Noticing, Restarting}
+use Rattle.host_model.specs.Stages.{numberOfRate}
+use Rattle.host_model.specs.Answers.{pieceSize}
+use Rattle.host_model.specs.AnswersLaws.{piece-packet}
+use Rattle.host_model.specs.declared.plan.Rate.{Rate}
+use Rattle.host_model.specs.declared.plan.Rate.the-variants.{R9600, R19200, R38400, R57600, R115200}
+use Rattle.host_model.specs.declared.plan.Start.{Start}
+use Rattle.host_model.specs.declared.plan.Start.the-variants.{WithText, AtOnce}
+use Rattle.host_model.specs.declared.plan.Plan.{Plan}
+use Rattle.host_model.specs.declared.plan.Stage.{Stage}
+use Rattle.host_model.specs.declared.plan.Stage.the-variants.{Asking, Declaring, Sending, Noticing, Restarting}
 use Rattle.module_model.specs.Phases.{largestFlash, totalOf}
 use Rattle.module.specs.Session.{session, takes}
 use Rattle.module_model.specs.PhasesLaws.{cut-length, facts-done}
@@ -53,16 +53,16 @@ use Rattle.module.specs.declared.session.Session.{Session as ModuleSession}
 use Rattle.module_model.specs.declared.events.Event.the-variants as module-event
 use Rattle.host.specs.Step as host-step
 use Rattle.host.specs.Step.{Wishes, planOf, openingOf}
-use Rattle.host.specs.Arises.{first-fits}
+use Rattle.host_model.specs.WaitsLaws.{first-fits}
 use Rattle.host.specs.Session as host-session
-use Rattle.host.specs.Runs.{Given, leaves, sentBy}
-use Rattle.host.specs.Promises.{frame, GoodStep}
-use Rattle.host.specs.Forward.{arrived, Leads, text-step, rate-step, parameters-step, packet-step, last-step, notice-step, restart-step}
-use Rattle.host.specs.Forward.{opening-sends}
-use Rattle.host.specs.Forward as load
+use Rattle.host_promises.specs.Runs.{Given, leaves, sentBy}
+use Rattle.host_promises.specs.Promises.{frame, GoodStep}
+use Rattle.host_promises.specs.Forward.{arrived, Leads, text-step, rate-step, parameters-step, packet-step, last-step, notice-step, restart-step}
+use Rattle.host_promises.specs.Forward.{opening-sends}
+use Rattle.host_promises.specs.Forward as load
 use Rattle.host.specs.declared.session.Session.{Session as HostSession}
-use Rattle.host.specs.declared.session.Event.the-variants as host-event
-use Rattle.host.specs.declared.session.Answer.the-variants as host-answer
+use Rattle.host_model.specs.declared.events.Event.the-variants as host-event
+use Rattle.host_model.specs.declared.events.Answer.the-variants as host-answer
 use Rattle.line.specs.Lossless.{Talk, isDone, talkOn, talks, startedBy, turnsOf}
 use Rattle.line.specs.Promises.{Loaded, LosslessEnds}
 use Rattle.line.specs.TransferLaws.{not-none, last-single, last-behind, packetFrames, packet-short, parameters-short}

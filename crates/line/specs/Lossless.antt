@@ -7,16 +7,16 @@ use Rattle.kinds.specs.Kinds.{numberOf}
 use Rattle.kinds.specs.declared.Kind.{Kind}
 use Rattle.wire.specs.Frame.{Frame}
 use Rattle.commands.specs.Commands.{startAnswer}
-use Rattle.stages.specs.declared.plan.Start.{Start}
-use Rattle.stages.specs.declared.plan.Start.the-variants.{WithText, AtOnce}
+use Rattle.host_model.specs.declared.plan.Start.{Start}
+use Rattle.host_model.specs.declared.plan.Start.the-variants.{WithText, AtOnce}
 use Rattle.module_promises.specs.Runs as module-runs
 use Rattle.module_promises.specs.Runs.{heardIn}
 use Rattle.host.specs.Step as host-step
 use Rattle.host.specs.Step.{Wishes, openingOf}
-use Rattle.host.specs.Runs as host-runs
-use Rattle.host.specs.declared.session.Event.the-variants as host-event
-use Rattle.host.specs.declared.session.Answer.{Answer}
-use Rattle.host.specs.declared.session.Answer.the-variants.{Nothing, Sent, Done, Refused, Failed}
+use Rattle.host_promises.specs.Runs as host-runs
+use Rattle.host_model.specs.declared.events.Event.the-variants as host-event
+use Rattle.host_model.specs.declared.events.Answer.{Answer}
+use Rattle.host_model.specs.declared.events.Answer.the-variants.{Nothing, Sent, Done, Refused, Failed}
 use Rattle.line.specs.Joined.{ModuleSession, HostSession, hostGets, boardGets}
 
 -- The two sessions, the module's flash, the frames under way to each, and whether the host has said that the load is done.

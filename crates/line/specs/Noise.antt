@@ -28,7 +28,7 @@ use Rattle.module_promises.specs.RunsLaws.{ShortFrames}
 use Rattle.module_promises.specs.Promises.{Frames, Fits, EndsInSuccess}
 use Rattle.module.specs.declared.session.Session.{Session}
 use Rattle.module_model.specs.declared.events.Event.the-variants as event
-use Rattle.host.specs.Promises.{packetsSent}
+use Rattle.host_promises.specs.Promises.{packetsSent}
 use Rattle.board_end.specs.Board.{BoardLeft, boardWith, beside, heardBy, frameHeard, boardHears}
 use Rattle.line.specs.Feeds.{Fed, bytesOf, Roomy, hearsFed, BoardAfter, boardAfter, fedOf, cleanBytes}
 use Rattle.line.specs.TransferLaws.{not-none, last-single, last-behind, packetFrames, packets-short, parameters-short}

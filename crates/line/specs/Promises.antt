@@ -12,18 +12,18 @@ use Rattle.pieces.specs.Pieces.{countOf}
 use Rattle.wire.specs.Frame.{Frame}
 use Rattle.commands.specs.Commands.{accepted, largestPacket, largestTotal, notice, packetReply}
 use Rattle.reader.specs.Promises.{Any}
-use Rattle.stages.specs.Answers.{pieceSize}
-use Rattle.stages.specs.declared.plan.Rate.{Rate}
-use Rattle.stages.specs.declared.plan.Stage.the-variants.{Restarting}
+use Rattle.host_model.specs.Answers.{pieceSize}
+use Rattle.host_model.specs.declared.plan.Rate.{Rate}
+use Rattle.host_model.specs.declared.plan.Stage.the-variants.{Restarting}
 use Rattle.module_promises.specs.Promises.{Fits}
 use Rattle.module_promises.specs.Runs.{heardIn}
 use Rattle.module_model.specs.Answers.{countIn}
 use Rattle.module.specs.Session.{takes}
 use Rattle.module.specs.Step.{smallestReply}
 use Rattle.host.specs.Step.{Wishes, openingOf}
-use Rattle.host.specs.declared.session.Answer.the-variants.{Done}
-use Rattle.host.specs.declared.session.Phase.the-variants.{Waiting}
-use Rattle.host.specs.declared.session.Wait.{Wait}
+use Rattle.host_model.specs.declared.events.Answer.the-variants.{Done}
+use Rattle.host_model.specs.declared.waits.Phase.the-variants.{Waiting}
+use Rattle.host_model.specs.declared.waits.Wait.{Wait}
 use Rattle.board_end.specs.Board.{BoardLeft}
 use Rattle.host_end.specs.HostEnd.{hostHears}
 use Rattle.board_end.specs.declared.board.Board.{Board}

@@ -10,18 +10,18 @@ use Rattle.pieces.specs.Pieces.{countOf}
 use Rattle.wire.specs.Frame.{Frame}
 use Rattle.commands.specs.Commands.{largestPacket, largestTotal, accepted, parametersReply, notice}
 use Rattle.commands.specs.Commands.{rateFrame, parametersFrame, packetFrame, restartFrame}
-use Rattle.stages.specs.Stages.{numberOfRate}
-use Rattle.stages.specs.Answers.{pieceSize}
-use Rattle.stages.specs.declared.plan.Rate.{Rate}
-use Rattle.stages.specs.declared.plan.Stage.{Stage}
-use Rattle.stages.specs.declared.plan.Stage.the-variants.{Text, Asking, Declaring, Sending, Noticing, Restarting}
+use Rattle.host_model.specs.Stages.{numberOfRate}
+use Rattle.host_model.specs.Answers.{pieceSize}
+use Rattle.host_model.specs.declared.plan.Rate.{Rate}
+use Rattle.host_model.specs.declared.plan.Stage.{Stage}
+use Rattle.host_model.specs.declared.plan.Stage.the-variants.{Text, Asking, Declaring, Sending, Noticing, Restarting}
 use Rattle.module_model.specs.Due.{transferFor}
 use Rattle.module_model.specs.declared.phases.Phase as module-phase
 use Rattle.module_model.specs.declared.phases.Phase.the-variants.{Closed, Ready, Begun, Loading, Done}
 use Rattle.host.specs.Session.{arises}
 use Rattle.host.specs.Step.{Wishes, planOf}
-use Rattle.host.specs.declared.session.Phase as host-phase
-use Rattle.host.specs.declared.session.Phase.the-variants.{Ended, Waiting}
+use Rattle.host_model.specs.declared.waits.Phase as host-phase
+use Rattle.host_model.specs.declared.waits.Phase.the-variants.{Ended, Waiting}
 use Rattle.line.specs.Joined.{Joined}
 use Rattle.line.specs.Filled.{Filled, Kept}
 

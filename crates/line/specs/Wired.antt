@@ -10,7 +10,7 @@ use Rattle.module.specs.Session as module-session
 use Rattle.module_promises.specs.Runs.{heardIn}
 use Rattle.module_model.specs.Answers as module-answers
 use Rattle.host.specs.Step as host-step
-use Rattle.host.specs.Runs as host-runs
+use Rattle.host_promises.specs.Runs as host-runs
 use Rattle.board_end.specs.Board.{BoardLeft, boardOf, boardHears, boardWaits}
 use Rattle.host_end.specs.HostEnd.{HostLeft, endOf, hostHears, hostWaits}
 use Rattle.board_end.specs.declared.board.Board.{Board}
@@ -65,7 +65,7 @@ hostFed x l = record {
   host = l .end;
   board = x .board;
   flash = x .flash;
-  from-host = x .from-host ++ heardIn (take (host-runs.countIn (l .answer)) (l .output));
+  from-host = x .from-host ++ heardIn (host-runs.sentBy l);
   from-board = x .from-board;
 }
 

@@ -25,10 +25,10 @@ use Rattle.module_promises.specs.RunsLaws.{heard-nothing}
 use Rattle.module_model.specs.declared.events.Event.the-variants as module-event
 use Rattle.host.specs.Step as host-step
 use Rattle.host.specs.Step.{Wishes, openingOf}
-use Rattle.host.specs.declared.session.Phase.{Phase}
-use Rattle.host.specs.declared.session.Phase.the-variants.{Ended, Waiting}
-use Rattle.host.specs.declared.session.Event.the-variants as host-event
-use Rattle.host.specs.declared.session.Answer.the-variants.{Done}
+use Rattle.host_model.specs.declared.waits.Phase.{Phase}
+use Rattle.host_model.specs.declared.waits.Phase.the-variants.{Ended, Waiting}
+use Rattle.host_model.specs.declared.events.Event.the-variants as host-event
+use Rattle.host_model.specs.declared.events.Answer.the-variants.{Done}
 use Rattle.board_end.specs.Board as board
 use Rattle.host_end.specs.HostEnd as end
 use Rattle.host_end.specs.Text.{followed}

@@ -3,9 +3,9 @@ use Prim.Native.Nat.{ℕ}
 use mathlib.Core.Bool.{Bool}
 use mathlib.Core.List.{List}
 use lib.Dec.{ltb}
-use Rattle.host.specs.Session.{phaseRepeats}
+use Rattle.host_model.specs.Views.{phaseRepeats}
 use Rattle.host.specs.declared.session.Session.{Session}
-use Rattle.host.specs.declared.session.Answer.{Answer}
+use Rattle.host_model.specs.declared.events.Answer.{Answer}
 use Rattle.host_end.specs.HostEnd.{HostLeft, endOf, hostHears, hostWaits}
 use Rattle.host_end.specs.declared.end.HostEnd.{HostEnd}
 use Rattle.host_end.specs.declared.end.HostStep.{HostStep}

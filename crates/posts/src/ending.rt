@@ -1,6 +1,6 @@
 // How a load ended, and the words for it.
 ghost use mathlib.Core.Path.{_≡_};
-ghost use Rattle.host.specs.Runs.{countIn};
+ghost use Rattle.host_model.specs.Events.{countIn};
 ghost use Rattle.posts.specs.View.{begunOf, overOf, endingOf};
 use console::voice;
 use host::Answer;

@@ -1,44 +1,13 @@
 // What an answer of the module does: which answers fit a stage, and where each leads. Nothing is sent here.
 ghost use mathlib.Core.Path.{_≡_};
 ghost use Prim.Native.Nat.{_<_};
-ghost use Rattle.stages.specs.Stages.{numberOfRate};
-ghost use Rattle.stages.specs.Answers.{
-  byAck,
-  lowerMove,
-  rateMove,
-  pieceSize,
-  sizeMove,
-  parametersMove,
-  acceptedMove,
-  sameMove,
-  packetMove,
-  noticeMove,
-  fitting,
-  rateAnswer,
-  parametersAnswer,
-  packetAnswer,
-  noticeAnswer,
-  restartAnswer,
-  frameMove,
-  textMove,
-  lineMove,
-};
-use crate::plan::Plan;
-use crate::plan::Rate;
-use crate::plan::Same;
-use crate::plan::Stage;
-
-// Pass the event over; enter a stage with its message; await a stage without one; resend; give up with the module's byte passed on;
-// give up for the number of pieces; done.
-pub enum Move {
-    Stay,
-    Enter(Stage),
-    Await(Stage),
-    Resend,
-    Refuse { number: u8, passed: u8 },
-    TooMany,
-    Finish,
-}
+ghost use Rattle.host_model.specs.Stages.{numberOfRate};
+ghost use Rattle.host_model.specs.Answers.{byAck, lowerMove, rateMove, pieceSize, sizeMove, parametersMove, acceptedMove, sameMove, packetMove, noticeMove, fitting, rateAnswer, parametersAnswer, packetAnswer, noticeAnswer, restartAnswer, frameMove, textMove, lineMove};
+use host_model::Move;
+use host_model::Plan;
+use host_model::Rate;
+use host_model::Same;
+use host_model::Stage;
 
 // A frame at a stage. An answer of another command or payload length counts as none.
 pub fn frame_move(plan: Plan, image: usize, stage: Stage, command: u8, payload: &[u8]) -> Move

@@ -1,11 +1,11 @@
 // Which numbers of a stage could arise.
 ghost use mathlib.Core.Path.{_≡_};
-ghost use Rattle.stages.specs.Stages.{rateFits, textFits, sizeFits, numberFits, stageFits};
+ghost use Rattle.host_model.specs.Stages.{rateFits, textFits, sizeFits, numberFits, stageFits};
 use crate::answers::rate_number;
-use crate::plan::Plan;
-use crate::plan::Rate;
-use crate::plan::Stage;
-use crate::plan::Start;
+use host_model::Plan;
+use host_model::Rate;
+use host_model::Stage;
+use host_model::Start;
 
 // Whether a stage of a load of an image of this length could arise.
 pub fn stage_fits(plan: Plan, image: usize, stage: Stage) -> bool

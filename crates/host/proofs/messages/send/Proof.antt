@@ -7,10 +7,10 @@ use Rattle.pieces.specs.Pieces.{countOf}
 use Rattle.wire.specs.Write.{writeOf}
 use Rattle.commands.specs.Commands.{rateFrame, parametersFrame, packetFrame}
 use Rattle.commands.specs.CommandsLaws.{length-parameters}
-use Rattle.stages.specs.Stages.{numberOfRate}
-use Rattle.host.specs.Messages.{messageOf, sentOf}
-use Rattle.host.specs.MessagesLaws.{sent-frame, sent-packet}
-use Rattle.stages.specs.StagesLaws.{small-same}
+use Rattle.host_model.specs.Stages.{numberOfRate}
+use Rattle.host_model.specs.Messages.{messageOf, sentOf}
+use Rattle.host_model.specs.MessagesLaws.{sent-frame, sent-packet}
+use Rattle.host_model.specs.StagesLaws.{small-same}
 use Rattle.host.proofs.messages.send.Statement.{statement}
 use Rattle.host.proofs.messages.send.Tie as tie
 

@@ -3,7 +3,7 @@ use borrow.Author.Needs.{needs}
 use mathlib.Core.Path.{_∙_}
 use native.Mathlib.Omega.{arith}
 use Rattle.commands.specs.Commands.{restartFrame}
-use Rattle.host.specs.MessagesLaws.{sent-frame}
+use Rattle.host_model.specs.MessagesLaws.{sent-frame}
 use Rattle.host.proofs.messages.send_restart.Statement.{statement}
 use Rattle.host.proofs.messages.send_restart.Tie as tie
 

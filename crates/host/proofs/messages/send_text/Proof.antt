@@ -2,7 +2,7 @@
 use borrow.Author.Needs.{needs}
 use native.Mathlib.Omega.{arith}
 use Rattle.commands.specs.Commands.{startText}
-use Rattle.host.specs.MessagesLaws.{sent-none, sent-laid}
+use Rattle.host_model.specs.MessagesLaws.{sent-none, sent-laid}
 use Rattle.host.proofs.messages.send_text.Statement.{statement}
 use Rattle.host.proofs.messages.send_text.Tie as tie
 

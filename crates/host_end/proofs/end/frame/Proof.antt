@@ -2,7 +2,7 @@
 use borrow.Author.Needs.{needs}
 use mathlib.Core.Bool.{false}
 use mathlib.Core.Path.{ap, _∙_}
-use Rattle.host.specs.declared.session.Event.the-variants.{Frame}
+use Rattle.host_model.specs.declared.events.Event.the-variants.{Frame}
 use Rattle.host.specs.Step.{stepOf}
 use Rattle.host_end.specs.HostEnd.{hostLeft, beside, frameHeard}
 use Rattle.host_end.proofs.end.frame.Statement.{statement}

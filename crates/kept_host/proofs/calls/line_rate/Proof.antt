@@ -1,7 +1,7 @@
 -- `line_rate`: of the session kept.
 use borrow.Author.Needs.{needs}
 use mathlib.Core.Path.{ap, _∙_}
-use Rattle.host.specs.Session.{phaseRate}
+use Rattle.host_model.specs.Views.{phaseRate}
 use Rattle.host.specs.declared.session.Session.{Session}
 use Rattle.kept_host.specs.Kept.{lineNumber}
 use Rattle.kept_host.proofs.calls.line_rate.Statement.{statement}

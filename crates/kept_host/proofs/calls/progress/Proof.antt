@@ -1,7 +1,7 @@
 -- `progress`: of the session kept.
 use borrow.Author.Needs.{needs}
 use mathlib.Core.Path.{ap, _∙_}
-use Rattle.host.specs.Session.{phaseProgress}
+use Rattle.host_model.specs.Views.{phaseProgress}
 use Rattle.host.specs.declared.session.Session.{Session}
 use Rattle.kept_host.proofs.calls.progress.Statement.{statement}
 use Rattle.kept_host.proofs.calls.progress.Tie as tie

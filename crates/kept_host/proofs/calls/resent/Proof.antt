@@ -1,7 +1,7 @@
 -- `resent`: of the session kept.
 use borrow.Author.Needs.{needs}
 use mathlib.Core.Path.{ap, _∙_}
-use Rattle.host.specs.Session.{phaseRepeats}
+use Rattle.host_model.specs.Views.{phaseRepeats}
 use Rattle.host.specs.declared.session.Session.{Session}
 use Rattle.kept_host.proofs.calls.resent.Statement.{statement}
 use Rattle.kept_host.proofs.calls.resent.Tie as tie

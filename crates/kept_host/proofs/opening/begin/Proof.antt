@@ -5,7 +5,7 @@ use Rattle.octets.specs.Choice.{cond-yes, cond-no, passed, failed}
 use Rattle.host.specs.Session.{stepped}
 use Rattle.host.specs.Step.{left}
 use Rattle.host.specs.declared.session.Session.{Session}
-use Rattle.host.specs.declared.session.Answer.the-variants.{Refused}
+use Rattle.host_model.specs.declared.events.Answer.the-variants.{Refused}
 use Rattle.kept_host.specs.Kept.{openingBy}
 use Rattle.kept_host.proofs.opening.begin.Statement.{statement}
 use Rattle.kept_host.proofs.opening.begin.Tie as tie

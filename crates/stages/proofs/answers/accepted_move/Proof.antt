@@ -1,7 +1,7 @@
 -- `accepted_move`: the number is compared with the number of pieces.
 use mathlib.Core.Path.{sym}
 use native.Mathlib.Omega.{arith}
-use Rattle.stages.specs.AnswersLaws.{accepted-last, accepted-before}
+use Rattle.host_model.specs.AnswersLaws.{accepted-last, accepted-before}
 use borrow.Author.Needs.{needs}
 use Rattle.stages.proofs.answers.accepted_move.Statement.{statement}
 use Rattle.stages.proofs.answers.accepted_move.Tie as tie

@@ -1,7 +1,7 @@
 -- `by_ack`: each arm is one case of the definition.
 use mathlib.Core.Path.{sym, ap, _∙_}
-use Rattle.stages.specs.Answers.{byAck}
-use Rattle.stages.specs.AnswersLaws.{ack-accepted, ack-first, ack-second, ack-again, ack-other}
+use Rattle.host_model.specs.Answers.{byAck}
+use Rattle.host_model.specs.AnswersLaws.{ack-accepted, ack-first, ack-second, ack-again, ack-other}
 use Rattle.stages.proofs.answers.by_ack.Statement.{statement}
 use Rattle.stages.proofs.answers.by_ack.Tie as tie
 

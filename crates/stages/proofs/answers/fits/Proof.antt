@@ -1,6 +1,6 @@
 -- `fits`: the command is compared, then the length.
 use mathlib.Core.Path.{sym}
-use Rattle.stages.specs.AnswersLaws.{fitting-no, fitting-long}
+use Rattle.host_model.specs.AnswersLaws.{fitting-no, fitting-long}
 use Rattle.stages.proofs.answers.fits.Statement.{statement}
 use Rattle.stages.proofs.answers.fits.Tie as tie
 

@@ -1,8 +1,8 @@
 -- `frame_move`: each stage by its own rule.
 use mathlib.Core.Path.{sym, ap, _∙_}
-use Rattle.stages.specs.Answers.{frameMove}
-use Rattle.stages.specs.declared.plan.Stage.{Stage}
-use Rattle.stages.specs.declared.answers.Move.{Move}
+use Rattle.host_model.specs.Answers.{frameMove}
+use Rattle.host_model.specs.declared.plan.Stage.{Stage}
+use Rattle.host_model.specs.declared.answers.Move.{Move}
 use borrow.Author.Needs.{needs}
 use Rattle.stages.proofs.answers.frame_move.Statement.{statement}
 use Rattle.stages.proofs.answers.frame_move.Tie as tie

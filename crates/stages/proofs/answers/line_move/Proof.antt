@@ -1,6 +1,6 @@
 -- `line_move`: only the start text is answered by a line.
 use mathlib.Core.Path.{sym, ap, _∙_}
-use Rattle.stages.specs.Answers.{lineMove}
+use Rattle.host_model.specs.Answers.{lineMove}
 use borrow.Author.Needs.{needs}
 use Rattle.stages.proofs.answers.line_move.Statement.{statement}
 use Rattle.stages.proofs.answers.line_move.Tie as tie

@@ -1,6 +1,6 @@
 -- `lower`: each arm is one case of the definition.
 use mathlib.Core.Path.{sym, ap, _∙_}
-use Rattle.stages.specs.Answers.{lowerMove}
+use Rattle.host_model.specs.Answers.{lowerMove}
 use borrow.Author.Needs.{needs}
 use Rattle.stages.proofs.answers.lower.Statement.{statement}
 use Rattle.stages.proofs.answers.lower.Tie as tie

@@ -1,7 +1,7 @@
 -- `notice_answer`: the rule of the command, where command and length fit.
 use mathlib.Core.Path.{sym, ap, _∙_}
 use Rattle.octets.specs.Choice.{cond-yes, cond-no, passed, failed}
-use Rattle.stages.specs.Answers.{noticeMove}
+use Rattle.host_model.specs.Answers.{noticeMove}
 use borrow.Author.Needs.{needs}
 use Rattle.stages.proofs.answers.notice_answer.Statement.{statement}
 use Rattle.stages.proofs.answers.notice_answer.Tie as tie

@@ -1,8 +1,8 @@
 -- `packet_move`: PkNo is compared with the number sent, then with 0.
 use mathlib.Core.Path.{sym, ap, _∙_}
-use Rattle.stages.specs.Answers.{byAck}
-use Rattle.stages.specs.AnswersLaws.{packet-this, packet-none, packet-other}
-use Rattle.stages.specs.declared.answers.Move.the-variants.{Stay}
+use Rattle.host_model.specs.Answers.{byAck}
+use Rattle.host_model.specs.AnswersLaws.{packet-this, packet-none, packet-other}
+use Rattle.host_model.specs.declared.answers.Move.the-variants.{Stay}
 use borrow.Author.Needs.{needs}
 use Rattle.stages.proofs.answers.packet_move.Statement.{statement}
 use Rattle.stages.proofs.answers.packet_move.Tie as tie

@@ -1,7 +1,7 @@
 -- `parameters_answer`: the rule of the command, where command and length fit.
 use mathlib.Core.Path.{sym, ap₂, _∙_}
 use Rattle.octets.specs.Choice.{cond-yes, cond-no, passed, failed}
-use Rattle.stages.specs.Answers.{parametersMove}
+use Rattle.host_model.specs.Answers.{parametersMove}
 use borrow.Author.Needs.{needs}
 use Rattle.stages.proofs.answers.parameters_answer.Statement.{statement}
 use Rattle.stages.proofs.answers.parameters_answer.Tie as tie

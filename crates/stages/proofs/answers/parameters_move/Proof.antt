@@ -1,5 +1,5 @@
 -- `parameters_move`: the size is the smaller of three, then the ACK decides.
-use Rattle.stages.specs.AnswersLaws.{parameters-ack}
+use Rattle.host_model.specs.AnswersLaws.{parameters-ack}
 use borrow.Author.Needs.{needs}
 use Rattle.stages.proofs.answers.parameters_move.Statement.{statement}
 use Rattle.stages.proofs.answers.parameters_move.Tie as tie

@@ -1,10 +1,10 @@
 -- `rate_move`: the rate is compared with the one asked for, then with 0.
 use mathlib.Core.Path.{_≡_, sym, ap, _∙_}
-use Rattle.stages.specs.Stages.{numberOfRate}
-use Rattle.stages.specs.Answers.{byAck}
-use Rattle.stages.specs.AnswersLaws.{rate-asked, rate-none, rate-other}
-use Rattle.stages.specs.declared.plan.Stage.the-variants.{Declaring}
-use Rattle.stages.specs.declared.answers.Move.the-variants.{Stay, Enter}
+use Rattle.host_model.specs.Stages.{numberOfRate}
+use Rattle.host_model.specs.Answers.{byAck}
+use Rattle.host_model.specs.AnswersLaws.{rate-asked, rate-none, rate-other}
+use Rattle.host_model.specs.declared.plan.Stage.the-variants.{Declaring}
+use Rattle.host_model.specs.declared.answers.Move.the-variants.{Stay, Enter}
 use borrow.Author.Needs.{needs}
 use Rattle.stages.proofs.answers.rate_move.Statement.{statement}
 use Rattle.stages.proofs.answers.rate_move.Tie as tie

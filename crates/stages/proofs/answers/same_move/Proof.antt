@@ -1,6 +1,6 @@
 -- `same_move`: each arm is one case of the definition.
 use mathlib.Core.Path.{sym, ap, _∙_}
-use Rattle.stages.specs.Answers.{sameMove}
+use Rattle.host_model.specs.Answers.{sameMove}
 use borrow.Author.Needs.{needs}
 use Rattle.stages.proofs.answers.same_move.Statement.{statement}
 use Rattle.stages.proofs.answers.same_move.Tie as tie

@@ -1,7 +1,7 @@
 -- `size_move`: each test is one fact of the size.
 use mathlib.Core.Path.{sym}
 use native.Mathlib.Omega.{arith}
-use Rattle.stages.specs.AnswersLaws.{size-begins, size-stops}
+use Rattle.host_model.specs.AnswersLaws.{size-begins, size-stops}
 use borrow.Author.Needs.{needs}
 use Rattle.stages.proofs.answers.size_move.Statement.{statement}
 use Rattle.stages.proofs.answers.size_move.Tie as tie

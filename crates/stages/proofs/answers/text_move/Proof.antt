@@ -1,6 +1,6 @@
 -- `text_move`: the line is compared with the answer to the start text.
 use mathlib.Core.Path.{sym, _∙_}
-use Rattle.stages.specs.AnswersLaws.{text-same, text-other}
+use Rattle.host_model.specs.AnswersLaws.{text-same, text-other}
 use borrow.Author.Needs.{needs}
 use Rattle.stages.proofs.answers.text_move.Statement.{statement}
 use Rattle.stages.proofs.answers.text_move.Tie as tie

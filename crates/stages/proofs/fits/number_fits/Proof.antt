@@ -2,7 +2,7 @@
 use mathlib.Core.Path.{sym, ap, _∙_}
 use native.Mathlib.Omega.{arith}
 use lib.Dec.{leb}
-use Rattle.stages.specs.StagesLaws.{number-no, number-most}
+use Rattle.host_model.specs.StagesLaws.{number-no, number-most}
 use borrow.Author.Needs.{needs}
 use Rattle.stages.proofs.fits.number_fits.Statement.{statement}
 use Rattle.stages.proofs.fits.number_fits.Tie as tie

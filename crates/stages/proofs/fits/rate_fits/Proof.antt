@@ -1,7 +1,7 @@
 -- `rate_fits`: the numbers of the rates are compared.
 use mathlib.Core.Path.{ap₂}
 use lib.Dec.{leb}
-use Rattle.stages.specs.Stages.{rateFits}
+use Rattle.host_model.specs.Stages.{rateFits}
 use borrow.Author.Needs.{needs}
 use Rattle.stages.proofs.fits.rate_fits.Statement.{statement}
 use Rattle.stages.proofs.fits.rate_fits.Tie as tie

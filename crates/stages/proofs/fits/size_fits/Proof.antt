@@ -3,7 +3,7 @@ use mathlib.Core.Path.{sym, ap, _∙_}
 use native.Mathlib.Omega.{arith}
 use lib.Dec.{leb}
 use Rattle.commands.specs.Commands.{largestTotal}
-use Rattle.stages.specs.StagesLaws.{size-no, size-count}
+use Rattle.host_model.specs.StagesLaws.{size-no, size-count}
 use borrow.Author.Needs.{needs}
 use Rattle.stages.proofs.fits.size_fits.Statement.{statement}
 use Rattle.stages.proofs.fits.size_fits.Tie as tie

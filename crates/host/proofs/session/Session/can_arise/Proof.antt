@@ -1,7 +1,8 @@
 -- `Session::can_arise`: an ended session always, a waiting one by its numbers.
 use borrow.Author.Needs.{needs}
 use mathlib.Core.Path.{sym, ap, _∙_}
-use Rattle.host.specs.Session.{phaseArises, arises}
+use Rattle.host_model.specs.Waits.{phaseArises}
+use Rattle.host.specs.Session.{arises}
 use Rattle.host.proofs.session.Session.can_arise.Statement.{statement}
 use Rattle.host.proofs.session.Session.can_arise.Tie as tie
 

@@ -1,0 +1,44 @@
+-- What a caller reads from a session.
+use Prim.Native.Nat.{ℕ, _-_}
+use Rattle.pieces.specs.Pieces.{countOf}
+use Rattle.host_model.specs.declared.plan.Stage.{Stage}
+use Rattle.host_model.specs.declared.plan.Stage.the-variants.{Text, Asking, Declaring, Sending, Noticing, Restarting}
+use Rattle.host_model.specs.declared.waits.Phase.{Phase}
+use Rattle.host_model.specs.declared.waits.Phase.the-variants.{Ended, Waiting}
+use Rattle.host_model.specs.declared.views.Progress.{Progress}
+use Rattle.host_model.specs.declared.views.LineRate.{LineRate}
+use Rattle.host_model.specs.declared.views.LineRate.the-variants.{AsItWas, Agreed}
+
+abbrev pub progressOf : ℕ → ℕ → Progress
+progressOf done total = record { accepted = done; total = total }
+
+abbrev pub stageProgress : Stage → ℕ → Progress
+stageProgress Text image = progressOf 0 0
+stageProgress (Asking rate) image = progressOf 0 0
+stageProgress (Declaring rate) image = progressOf 0 0
+stageProgress (Sending rate size number) image = progressOf (number - 1) (countOf image size)
+stageProgress (Noticing rate size) image = progressOf (countOf image size) (countOf image size)
+stageProgress (Restarting rate size) image = progressOf (countOf image size) (countOf image size)
+
+-- Packets accepted and in all; an ended session, or one that could not arise, has none.
+abbrev pub phaseProgress : Phase → ℕ → Progress
+phaseProgress Ended image = progressOf 0 0
+phaseProgress (Waiting w) image = stageProgress (w .stage) image
+
+-- The rate that the line should have: the agreed one from the parameters on.
+abbrev pub stageRate : Stage → LineRate
+stageRate Text = AsItWas
+stageRate (Asking rate) = AsItWas
+stageRate (Declaring rate) = Agreed rate
+stageRate (Sending rate size number) = Agreed rate
+stageRate (Noticing rate size) = Agreed rate
+stageRate (Restarting rate size) = Agreed rate
+
+abbrev pub phaseRate : Phase → LineRate
+phaseRate Ended = AsItWas
+phaseRate (Waiting w) = stageRate (w .stage)
+
+-- How often the frame under way was resent.
+abbrev pub phaseRepeats : Phase → ℕ
+phaseRepeats Ended = 0
+phaseRepeats (Waiting w) = w .repeats

@@ -1,0 +1,10 @@
+// What a host's session waits for, what follows an event, and what a caller reads from it. All of it is decided here, nothing is sent.
+mod nexts;
+mod views;
+mod waits;
+
+pub use nexts::event_next;
+pub use nexts::plan_next;
+pub use views::stage_progress;
+pub use views::stage_rate;
+pub use waits::wait_fits;

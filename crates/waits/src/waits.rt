@@ -1,0 +1,77 @@
+// How long and how often a message is awaited, and which numbers of a waiting session could arise.
+ghost use mathlib.Core.Path.{_≡_};
+ghost use Rattle.host_model.specs.Waits.{mostRepeats, limitOf, wait, firstStage, loadable, waitFits};
+use host_model::Plan;
+use host_model::Rate;
+use host_model::Stage;
+use host_model::Start;
+use host_model::Wait;
+
+// Milliseconds for an answer, and for the notice.
+const ANSWER_LIMIT: u32 = 1000;
+
+const NOTICE_LIMIT: u32 = 5000;
+
+// How often one message is resent.
+pub(crate) const MOST_REPEATS: u32 = 3;
+
+// Whether a waiting session over an image of this length could arise.
+pub fn wait_fits(image: usize, wait: Wait) -> bool
+    ensures { λ r. ⌜ r ≡ waitFits image wait ⌝ }
+{
+    let plan = wait.plan;
+    let stage = wait.stage;
+    if !loadable(plan, image) {
+        return false;
+    }
+    if limit(stage) <= wait.waited {
+        return false;
+    }
+    if MOST_REPEATS < wait.repeats {
+        return false;
+    }
+    stages::stage_fits(plan, image, stage)
+}
+
+// What can be loaded.
+pub(crate) fn loadable(plan: Plan, image: usize) -> bool
+    ensures { λ r. ⌜ r ≡ loadable plan image ⌝ }
+{
+    let kind = plan.kind;
+    kinds::fits_file(kind, image)
+}
+
+// How long an answer is awaited.
+pub(crate) fn limit(stage: Stage) -> u32
+    ensures { λ r. ⌜ r ≡ limitOf stage ⌝ }
+{
+    match stage {
+        Stage::Text => ANSWER_LIMIT,
+        Stage::Asking(_) => ANSWER_LIMIT,
+        Stage::Declaring(_) => ANSWER_LIMIT,
+        Stage::Sending { .. } => ANSWER_LIMIT,
+        Stage::Noticing { .. } => NOTICE_LIMIT,
+        Stage::Restarting { .. } => ANSWER_LIMIT,
+    }
+}
+
+// The start text, or the first rate.
+pub(crate) fn first_stage(start: Start, first: Rate) -> Stage
+    ensures { λ r. ⌜ r ≡ firstStage start first ⌝ }
+{
+    match start {
+        Start::WithText => Stage::Text,
+        Start::AtOnce => Stage::Asking(first),
+    }
+}
+
+pub(crate) fn waiting(plan: Plan, stage: Stage, waited: u32, repeats: u32) -> Wait
+    ensures { λ r. ⌜ r ≡ wait plan stage waited repeats ⌝ }
+{
+    Wait {
+        plan: plan,
+        stage: stage,
+        waited: waited,
+        repeats: repeats,
+    }
+}
