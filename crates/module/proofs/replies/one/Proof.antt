@@ -1,6 +1,6 @@
 -- `one`: at most three payload bytes always fit, so the writer does not refuse.
 use borrow.Author.Needs.{needs}
-use Rattle.commands.specs.Commands.{frame}
+use Rattle.wire.specs.Frame.{frame}
 use Rattle.module.specs.StepLaws.{wrote-one, wrote-never}
 use Rattle.module.proofs.replies.one.Statement.{statement}
 use Rattle.module.proofs.replies.one.Tie as tie
