@@ -2,7 +2,7 @@
 ghost use mathlib.Core.Path.{_≡_};
 ghost use Rattle.refusals.specs.Refusals.{sayOf, wordsOf};
 ghost use Rattle.wire.specs.Escape.{mayFollow, originalOf};
-ghost use Rattle.wire.specs.Frame.{isContent};
+ghost use Rattle.wire.specs.Frame.{frame, isContent};
 ghost use Rattle.wire.specs.Write.{writeOf};
 ghost use Rattle.exports.specs.Flat.{numberIn, countIn, writtenFlat};
 use refusals::Written;
@@ -22,7 +22,7 @@ pub extern "C" fn zrn_frame_write(
     count: &mut usize,
 ) -> u8
     ensures { λ r. ⌜ record { answer = r; count = now (count .exit); output = now (out .exit) }
-        ≡ writtenFlat (writeOf (record { command = command; payload = now (payload .entry) }) (now (out .entry))) ⌝ }
+        ≡ writtenFlat (writeOf (frame command (now (payload .entry))) (now (out .entry))) ⌝ }
 {
     let written = wire::write(command, payload, out);
     *count = count_of(written);

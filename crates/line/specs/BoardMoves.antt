@@ -17,7 +17,7 @@ use Rattle.kinds.specs.declared.Known.{Known}
 use Rattle.kinds.specs.declared.Known.the-variants.{Is, Unknown}
 use Rattle.pieces.specs.Pieces.{offsetOf, sizeAt, pieceOf}
 use Rattle.pieces.specs.PiecesLaws.{within, length-piece, size-before, size-last, last-offset, product-step}
-use Rattle.wire.specs.Frame.{Frame}
+use Rattle.wire.specs.Frame.{Frame, frame}
 use Rattle.commands.specs.Commands.{largestPacket, largestTotal, parametersCommand, packetCommand, accepted, parametersReply, notice}
 use Rattle.commands.specs.Commands.{parametersFor, packetFor}
 use Rattle.host_model.specs.declared.plan.Stage.{Stage}
@@ -91,7 +91,7 @@ module _ (kind : Kind) (w : Wishes) (image before : List ℕ) where
 
   module _ (j : Joined) (g : Given) (h : Stand kind w image before j) (flash-is : g .flash ≡ j .flash)
       (from : (count : ℕ) (command : ℕ) → g .event ≡ event.Frame command count
-      → HostFrame kind w image (h .begun) (record { command = command; payload = payloadOf g })) where
+      → HostFrame kind w image (h .begun) (frame command (payloadOf g))) where
     abbrev x : Exchange
     x = exchange (j .board) g
 
@@ -170,7 +170,7 @@ module _ (kind : Kind) (w : Wishes) (image before : List ℕ) where
             (λ on. room) (λ on. rw phase (transfer-is, (λ i less. absurd (omega (arith, less))))) (λ f. rw kept-flash f)
             (λ m. absurd (d .said .no-notice m))
 
-        go : HostFrame kind w image (h .begun) (record { command = parametersCommand; payload = payloadOf g })
+        go : HostFrame kind w image (h .begun) (frame parametersCommand (payloadOf g))
             → Stand kind w image before (boardTakes j (x .left))
         go (rate r e) = absurd (omega (arith, ap (λ (f : Frame). f .command) e))
         go (parameters short e) = begins short (ap (λ (f : Frame). f .payload) e)
@@ -208,7 +208,7 @@ module _ (kind : Kind) (w : Wishes) (image before : List ℕ) where
                   ∙ a .belongs .total-is;
             }
 
-        go : HostFrame kind w image (h .begun) (record { command = packetCommand; payload = payloadOf g }) → Ours-heard p number
+        go : HostFrame kind w image (h .begun) (frame packetCommand (payloadOf g)) → Ours-heard p number
         go (rate r e) = absurd (omega (arith, ap (λ (f : Frame). f .command) e))
         go (parameters short e) = absurd (omega (arith, ap (λ (f : Frame). f .command) e))
         go (packet k on some sized one most few e) = is-ours k on some sized one most few (ap (λ (f : Frame). f .payload) e)

@@ -13,7 +13,7 @@ use Rattle.refusals.specs.Refusals.{noRoom, wrongImageLength}
 use Rattle.kinds.specs.Kinds.{numberOf, baseOf}
 use Rattle.kinds.specs.KindsLaws.{kind-of-number}
 use Rattle.kinds.specs.declared.Kind.{Kind}
-use Rattle.wire.specs.Frame.{Frame}
+use Rattle.wire.specs.Frame.{Frame, frame}
 use Rattle.commands.specs.Commands.{notice}
 use Rattle.host_model.specs.declared.plan.Rate.{Rate}
 use Rattle.host_model.specs.declared.plan.Start.{Start}
@@ -71,7 +71,7 @@ heard-this f e image output h =
     let count-is : h .count ≡ length (f .payload) = ap countIn (sym (h .event-is)) in
     let payload-is : e .payload ≡ f .payload =
     sym (h .payload-is) ∙ ap (λ (n : ℕ). take n (f .payload)) count-is ∙ take-length (f .payload) in
-    λ i. record { command = command-is i; payload = payload-is i }
+    λ i. frame (command-is i) (payload-is i)
 
 abbrev moduleCommand : module-declared.Event → ℕ
 moduleCommand (module-event.Frame command count) = command
@@ -88,8 +88,8 @@ module _ (kind : Kind) (w : Wishes) (image before : List ℕ) where
   move-stands j h (board-hears f reply) may =
       board.step-stands kind w image before j _ h refl
       (λ count command e.
-      let this : record { command = command; payload = take (length (f .payload)) (f .payload) } ≡ f =
-      rw (take-length (f .payload)) (ap (λ (c : ℕ). record { command = c; payload = f .payload }) (ap moduleCommand (sym e))) in
+      let this : frame command (take (length (f .payload)) (f .payload)) ≡ f =
+      rw (take-length (f .payload)) (ap (λ (c : ℕ). frame c (f .payload)) (ap moduleCommand (sym e))) in
       rw this (h .frames f (may .0)))
       (may .1)
   move-stands j h (board-waits ms reply) may =

@@ -10,7 +10,7 @@ use Rattle.octets.specs.Octets.{partOf, laid}
 use Rattle.kinds.specs.Kinds.{baseOf}
 use Rattle.kinds.specs.declared.Kind.{Kind}
 use Rattle.pieces.specs.Pieces.{countOf}
-use Rattle.wire.specs.Frame.{Frame, longestPayload, wireOf}
+use Rattle.wire.specs.Frame.{Frame, frame, longestPayload, wireOf}
 use Rattle.commands.specs.Commands.{parametersFrame, packetFrame}
 use Rattle.reader.specs.Reader.{framesIn, framesOf, payloadIn}
 use Rattle.reader.specs.Reader as reader
@@ -64,7 +64,7 @@ byte-hands : (heard : Heard) (r : Reader) (s : Session) (flash reply : List ℕ)
 unfolding frameHeard partOf
 byte-hands Nothing r s flash reply f e = absurd (not-none (sym e))
 byte-hands (Whole command n) r s flash reply f e =
-    let same : _≡_ {A = Frame} (record { command = command; payload = payloadIn (r .store) n }) f = cc in
+    let same : _≡_ {A = Frame} (frame command (payloadIn (r .store) n)) f = cc in
     record {
       offer = record { event = event.Frame command n; payload = payloadIn (r .store) n; reply = reply };
       lends = refl;

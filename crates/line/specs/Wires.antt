@@ -12,7 +12,7 @@ use Rattle.octets.specs.Choice.{either-way}
 use Rattle.octets.specs.PartLaws.{part-most}
 use Rattle.kinds.specs.Kinds.{numberOf}
 use Rattle.kinds.specs.declared.Kind.{Kind}
-use Rattle.wire.specs.Frame.{Frame}
+use Rattle.wire.specs.Frame.{Frame, frame}
 use Rattle.commands.specs.Commands.{startAnswer}
 use Rattle.reader.specs.Reader.{payloadIn, framesIn}
 use Rattle.reader.specs.Reader as reader
@@ -45,7 +45,7 @@ use Rattle.line.specs.Wired.{Wired, Feed, board-byte, board-time, board-
 
 -- A step takes the first bytes of what it is lent, so a count over its length is its length.
 board-count : (s : ModuleSession) (command n : ℕ) (payload flash reply : List ℕ) → length payload ≤ n
-    → module-step.stepOf s (module-event.Frame command n) payload flash reply ≡ boardGets flash reply s (record { command = command; payload = payload })
+    → module-step.stepOf s (module-event.Frame command n) payload flash reply ≡ boardGets flash reply s (frame command payload)
 unfolding module-step.stepOf
 board-count s command n payload flash reply h = rw (take-all n payload h, take-length payload)
 
@@ -57,7 +57,7 @@ phase-count s (Waiting w) command n payload image output h = rw (take-all n payl
 
 host-count : (s : HostSession) (command n : ℕ) (payload image output : List ℕ) → length payload ≤ n
     → host-step.stepOf s (host-event.Frame command n) payload image output
-    ≡ hostGets image output s (record { command = command; payload = payload })
+    ≡ hostGets image output s (frame command payload)
 unfolding host-step.stepOf
 host-count s command n payload image output h = rw (phase-count s (s .phase) command n payload image output h)
 
@@ -88,7 +88,7 @@ board-heard : (image : List ℕ) (x : Wired) (reply : List ℕ) (h : Heard) (r :
 unfolding board.frameHeard
 board-heard image x reply Nothing r may = board-still image x r false reply
 board-heard image x reply (Whole command n) r may =
-    let f : Frame = record { command = command; payload = payloadIn (r .store) n } in
+    let f : Frame = frame command (payloadIn (r .store) n) in
     record {
       moves = board-hears f reply ∷ [];
       may = (may f (List·Memᴰ·head refl), tt);
@@ -116,7 +116,7 @@ host-heard : (image : List ℕ) (x : Wired) (output : List ℕ) (h : Heard) (r :
 unfolding end.frameHeard
 host-heard image x output Nothing r seen may = host-lined image x output r seen false
 host-heard image x output (Whole command n) r seen may =
-    let f : Frame = record { command = command; payload = payloadIn (r .store) n } in
+    let f : Frame = frame command (payloadIn (r .store) n) in
     record {
       moves = host-hears f output ∷ [];
       may = (may f (List·Memᴰ·head refl), tt);
@@ -171,7 +171,7 @@ host-done : (kind : Kind) (image before : List ℕ) (x : Wired) → InFlash kind
 unfolding end.frameHeard
 host-done kind image before x i output Nothing r seen may d = line-done kind image before x i output r seen false d
 host-done kind image before x i output (Whole command n) r seen may d =
-    let f : Frame = record { command = command; payload = payloadIn (r .store) n } in
+    let f : Frame = frame command (payloadIn (r .store) n) in
     i .done-noticed (host-hears f output) (may f (List·Memᴰ·head refl))
     (ap (λ (l : host-step.Left). l .answer)
     (sym (host-count (x .host .session) command n (payloadIn (r .store) n) image output (payload-short r n))) ∙ d)
