@@ -6,8 +6,8 @@ ghost use Rattle.host_model.specs.Messages.{goesOut, messageOf, sentOf};
 ghost use Rattle.host_model.specs.StagesLaws.{Small};
 use host_model::Plan;
 use host_model::Stage;
+use rates::rate_number;
 use refusals::Written;
-use stages::rate_number;
 
 // The message of a stage.
 pub(crate) fn send(plan: Plan, stage: Stage, image: &[u8], out: &mut [u8]) -> Written

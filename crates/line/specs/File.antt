@@ -15,6 +15,8 @@ use Rattle.kinds.specs.KindsLaws.{kind-of-number}
 use Rattle.kinds.specs.declared.Kind.{Kind}
 use Rattle.wire.specs.Frame.{Frame, frame}
 use Rattle.commands.specs.Commands.{notice}
+use Rattle.host_model.specs.declared.nexts.Next.{Next}
+use Rattle.host_model.specs.Nexts.{planNext}
 use Rattle.host_model.specs.declared.plan.Rate.{Rate}
 use Rattle.host_model.specs.declared.plan.Start.{Start}
 use Rattle.host_model.specs.declared.plan.Start.the-variants.{WithText, AtOnce}
@@ -22,10 +24,10 @@ use Rattle.module_promises.specs.RunsLaws.{heard-nothing}
 use Rattle.module_promises.specs.Runs.{heardIn}
 use Rattle.module_model.specs.declared.events.Event.the-variants as module-event
 use Rattle.module_model.specs.declared.events.Event as module-declared
-use Rattle.host_model.specs.Waits.{firstStage}
+use Rattle.host_model.specs.Waits.{firstStage, loadable}
 use Rattle.host.specs.Session.{stepped, arises}
 use Rattle.host_model.specs.Messages.{messageOf}
-use Rattle.host.specs.Step.{Wishes, Left, left, planOf, waitingOf, endedOf, sends, planOpening, openingOf}
+use Rattle.host.specs.Step.{Wishes, Left, left, planOf, waitingOf, endedOf, sends, planOpening, openingOf, performs}
 use Rattle.host_promises.specs.Runs.{sentBy, afterOf}
 use Rattle.host_model.specs.WaitsLaws.{first-fits}
 use Rattle.host_promises.specs.Arises.{reached-arises}

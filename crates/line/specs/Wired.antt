@@ -10,6 +10,7 @@ use Rattle.module.specs.Session as module-session
 use Rattle.module_promises.specs.Runs.{heardIn}
 use Rattle.module_model.specs.Answers as module-answers
 use Rattle.host.specs.Step as host-step
+use Rattle.host_model.specs.Events as host-events
 use Rattle.host_promises.specs.Runs as host-runs
 use Rattle.board_end.specs.Board.{BoardLeft, boardOf, boardHears, boardWaits}
 use Rattle.host_end.specs.HostEnd.{HostLeft, endOf, hostHears, hostWaits}
@@ -65,7 +66,7 @@ hostFed x l = record {
   host = l .end;
   board = x .board;
   flash = x .flash;
-  from-host = x .from-host ++ heardIn (host-runs.sentBy l);
+  from-host = x .from-host ++ heardIn (take (host-events.countIn (l .answer)) (l .output));
   from-board = x .from-board;
 }
 

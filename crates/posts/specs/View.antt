@@ -43,16 +43,16 @@ abbrev pub idleOf : Post → Bool
 idleOf post = ltb longestIdle (post .board .session .idle)
 
 -- A load under way, and one that is over: number 0 is done.
-abbrev pub begunOf : Ending
-begunOf = record { over = false; number = 0; passed = 0 }
+abbrev pub endedWith : Bool → ℕ → ℕ → Ending
+endedWith over number passed = record { over = over; number = number; passed = passed }
 
-abbrev pub overOf : ℕ → ℕ → Ending
-overOf number passed = record { over = true; number = number; passed = passed }
+abbrev pub begunOf : Ending
+begunOf = endedWith false 0 0
 
 -- What an answer of the host says of the end.
 abbrev pub endingOf : Answer → Ending
 endingOf answer.Nothing = begunOf
 endingOf (answer.Sent n) = begunOf
-endingOf answer.Done = overOf 0 0
-endingOf (answer.Refused number) = overOf number 0
-endingOf (answer.Failed number passed count) = overOf number passed
+endingOf answer.Done = endedWith true 0 0
+endingOf (answer.Refused number) = endedWith true number 0
+endingOf (answer.Failed number passed count) = endedWith true number passed

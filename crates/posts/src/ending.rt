@@ -1,7 +1,7 @@
 // How a load ended, and the words for it.
 ghost use mathlib.Core.Path.{_≡_};
 ghost use Rattle.host_model.specs.Events.{countIn};
-ghost use Rattle.posts.specs.View.{begunOf, overOf, endingOf};
+ghost use Rattle.posts.specs.View.{endedWith, begunOf, endingOf};
 use console::voice;
 use host::Answer;
 
@@ -16,11 +16,7 @@ pub struct Ending {
 pub fn begun() -> Ending
     ensures { λ r. ⌜ r ≡ begunOf ⌝ }
 {
-    Ending {
-        over: false,
-        number: 0,
-        passed: 0,
-    }
+    ended_with(false, 0, 0)
 }
 
 // What an answer of the host says of the end.
@@ -28,15 +24,15 @@ pub fn ended_by(answer: Answer) -> Ending
     ensures { λ r. ⌜ r ≡ endingOf answer ⌝ }
 {
     match answer {
-        Answer::Nothing => begun(),
-        Answer::Sent(_) => begun(),
-        Answer::Done => over(0, 0),
-        Answer::Refused(number) => over(number, 0),
+        Answer::Nothing => ended_with(false, 0, 0),
+        Answer::Sent(_) => ended_with(false, 0, 0),
+        Answer::Done => ended_with(true, 0, 0),
+        Answer::Refused(number) => ended_with(true, number, 0),
         Answer::Failed {
             number,
             passed,
             count,
-        } => over(number, passed),
+        } => ended_with(true, number, passed),
     }
 }
 
@@ -57,11 +53,11 @@ pub fn said(answer: Answer) -> usize
     }
 }
 
-fn over(number: u8, passed: u8) -> Ending
-    ensures { λ r. ⌜ r ≡ overOf number passed ⌝ }
+fn ended_with(over: bool, number: u8, passed: u8) -> Ending
+    ensures { λ r. ⌜ r ≡ endedWith over number passed ⌝ }
 {
     Ending {
-        over: true,
+        over: over,
         number: number,
         passed: passed,
     }

@@ -1,13 +1,15 @@
 // What an answer of the module does: which answers fit a stage, and where each leads. Nothing is sent here.
 ghost use mathlib.Core.Path.{_≡_};
 ghost use Prim.Native.Nat.{_<_};
-ghost use Rattle.host_model.specs.Stages.{numberOfRate};
 ghost use Rattle.host_model.specs.Answers.{byAck, lowerMove, rateMove, pieceSize, sizeMove, parametersMove, acceptedMove, sameMove, packetMove, noticeMove, fitting, rateAnswer, parametersAnswer, packetAnswer, noticeAnswer, restartAnswer, frameMove, textMove, lineMove};
+use crate::fits::LARGEST_PACKET;
+use crate::fits::LARGEST_TOTAL;
 use host_model::Move;
 use host_model::Plan;
 use host_model::Rate;
 use host_model::Same;
 use host_model::Stage;
+use rates::rate_number;
 
 // A frame at a stage. An answer of another command or payload length counts as none.
 pub fn frame_move(plan: Plan, image: usize, stage: Stage, command: u8, payload: &[u8]) -> Move
@@ -173,19 +175,6 @@ fn rate_move(asked: Rate, rate: u8, ack: u8) -> Move
     Move::Stay
 }
 
-// The number of a rate, as 0x01 carries it.
-pub fn rate_number(rate: Rate) -> u8
-    ensures { λ r. ⌜ r ≡ numberOfRate rate ⌝ }
-{
-    match rate {
-        Rate::R9600 => 1,
-        Rate::R19200 => 2,
-        Rate::R38400 => 3,
-        Rate::R57600 => 4,
-        Rate::R115200 => 5,
-    }
-}
-
 // A refused rate: one lower, below 9600 the load fails.
 fn lower(rate: Rate) -> Move
     ensures { λ r. ⌜ r ≡ lowerMove rate ⌝ }
@@ -212,7 +201,7 @@ fn refuse(ack: u8) -> Move
 fn parameters_move(plan: Plan, image: usize, rate: Rate, most: usize, ack: u8) -> Move
     ensures { λ r. ⌜ r ≡ parametersMove plan image rate most ack ⌝ }
 {
-    let size = octets::least(octets::least(most, 1024), plan.wish);
+    let size = octets::least(octets::least(most, LARGEST_PACKET), plan.wish);
     by_ack(
         ack,
         size_move(rate, image, size),
@@ -228,7 +217,7 @@ fn size_move(rate: Rate, image: usize, size: usize) -> Move
     if size < 1 {
         return Move::TooMany;
     }
-    if 65535 < pieces::count(image, size) {
+    if LARGEST_TOTAL < pieces::count(image, size) {
         return Move::TooMany;
     }
     Move::Enter(Stage::Sending {

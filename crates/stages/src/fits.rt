@@ -1,11 +1,15 @@
 // Which numbers of a stage could arise.
 ghost use mathlib.Core.Path.{_≡_};
-ghost use Rattle.host_model.specs.Stages.{rateFits, textFits, sizeFits, numberFits, stageFits};
-use crate::answers::rate_number;
+ghost use Rattle.host_model.specs.Stages.{textFits, sizeFits, numberFits, stageFits};
 use host_model::Plan;
-use host_model::Rate;
 use host_model::Stage;
 use host_model::Start;
+use rates::rate_fits;
+
+// The largest packet, and the largest number of packets.
+pub(crate) const LARGEST_PACKET: usize = 1024;
+
+pub(crate) const LARGEST_TOTAL: usize = 65535;
 
 // Whether a stage of a load of an image of this length could arise.
 pub fn stage_fits(plan: Plan, image: usize, stage: Stage) -> bool
@@ -51,13 +55,6 @@ fn text_fits(start: Start) -> bool
     }
 }
 
-// A rate that was asked for is not above the first.
-fn rate_fits(first: Rate, rate: Rate) -> bool
-    ensures { λ r. ⌜ r ≡ rateFits first rate ⌝ }
-{
-    rate_number(rate) <= rate_number(first)
-}
-
 // A piece size is 1 to 1,024, not over the wish, and two bytes carry the number of pieces.
 fn size_fits(image: usize, wish: usize, size: usize) -> bool
     ensures { λ r. ⌜ r ≡ sizeFits image wish size ⌝ }
@@ -65,13 +62,13 @@ fn size_fits(image: usize, wish: usize, size: usize) -> bool
     if size < 1 {
         return false;
     }
-    if 1024 < size {
+    if LARGEST_PACKET < size {
         return false;
     }
     if wish < size {
         return false;
     }
-    pieces::count(image, size) <= 65535
+    pieces::count(image, size) <= LARGEST_TOTAL
 }
 
 // A packet number is 1 to the number of pieces.

@@ -4,7 +4,6 @@ mod fits;
 
 pub use answers::frame_move;
 pub use answers::line_move;
-pub use answers::rate_number;
 pub use fits::stage_fits;
 pub use host_model::Move;
 pub use host_model::Plan;
@@ -12,3 +11,4 @@ pub use host_model::Rate;
 pub use host_model::Same;
 pub use host_model::Stage;
 pub use host_model::Start;
+pub use rates::rate_number;

@@ -3,8 +3,8 @@ use mathlib.Core.Path.{ap₂}
 use lib.Dec.{leb}
 use Rattle.host_model.specs.Stages.{rateFits}
 use borrow.Author.Needs.{needs}
-use Rattle.stages.proofs.fits.rate_fits.Statement.{statement}
-use Rattle.stages.proofs.fits.rate_fits.Tie as tie
+use Rattle.rates.proofs.rate_fits.Statement.{statement}
+use Rattle.rates.proofs.rate_fits.Tie as tie
 
 rate-number-requires : tie.Need-rate-number-requires
 rate-number-requires c κs = search needs
