@@ -2,7 +2,7 @@
 ghost use mathlib.Core.Path.{_≡_};
 ghost use Prim.Native.Nat.{_+_, _≤_};
 ghost use lib.ListN.{length, take};
-ghost use Rattle.wire.specs.Frame.{contentOf, isContent};
+ghost use Rattle.wire.specs.Frame.{longestPayload, longestContent, contentOf, isContent};
 
 pub const DEVICE: u8 = 0x01;
 
@@ -11,13 +11,13 @@ pub const PAYLOAD_MOST: usize = 1030;
 pub const CONTENT_MOST: usize = 1035;
 
 // The content of a frame at the front of the longest content's room.
-pub(crate) fn content_of(command: u8, payload: &[u8]) -> [u8; 1035]
-    requires { ⌜ length (now payload) ≤ 1030 ⌝ }
-    ensures { λ r. ⌜ (length r ≡ 1035)
+pub(crate) fn content_of(command: u8, payload: &[u8]) -> [u8; CONTENT_MOST]
+    requires { ⌜ length (now payload) ≤ longestPayload ⌝ }
+    ensures { λ r. ⌜ (length r ≡ longestContent)
         × (take (length (now (payload .entry)) + 5) r ≡ contentOf (record { command = command; payload = now (payload .entry) })) ⌝ }
 {
     let n = payload.len();
-    let mut content = [0u8; 1035];
+    let mut content = [0u8; CONTENT_MOST];
     octets::put_two(&mut content, 0, (n + 3) as u16);
     content[2] = DEVICE;
     content[3] = command;

@@ -5,7 +5,7 @@ ghost use lib.ListN.{length};
 ghost use lib.Seq.{sets};
 ghost use Rattle.octets.specs.Octets.{over};
 ghost use Rattle.wire.specs.Escape.{escapeOf};
-ghost use Rattle.wire.specs.Frame.{wireForm};
+ghost use Rattle.wire.specs.Frame.{longestContent, wireForm};
 ghost use Rattle.wire.specs.Write.{writeOf};
 use crate::content::PAYLOAD_MOST;
 use crate::content::content_of;
@@ -36,7 +36,7 @@ pub fn write(command: u8, payload: &[u8], out: &mut [u8]) -> Written
 
 // How long the wire form of content is.
 fn size_of(content: &[u8]) -> usize
-    requires { ⌜ length (now content) ≤ 1035 ⌝ }
+    requires { ⌜ length (now content) ≤ longestContent ⌝ }
     ensures { λ r. ⌜ r ≡ length (wireForm (now (content .entry))) ⌝ }
 {
     let mut size: usize = 2;

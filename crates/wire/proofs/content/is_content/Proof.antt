@@ -6,7 +6,7 @@ use borrow.Author.Tests.{le-leb, lt-leb, eq-eqb, ne-eqb}
 use lib.ListN.{length, getD}
 use lib.Seq.{length-take-le}
 use Rattle.octets.specs.Octets.{numberAt}
-use Rattle.wire.specs.Frame.{isContent}
+use Rattle.wire.specs.Frame.{longestContent, isContent}
 use borrow.Author.Needs.{needs}
 use Rattle.wire.proofs.content.is_content.Statement.{statement}
 use Rattle.wire.proofs.content.is_content.Tie as tie
@@ -19,7 +19,7 @@ returns-2 : tie.Need-returns-2
 unfolding isContent
 returns-2 c =
     let s = c .before .before .before .args .content .now in
-    rw (le-leb 5 (length s) (c .before .if1 .left), lt-leb (length s) 1035 (c .if2 .taken))
+    rw (le-leb 5 (length s) (c .before .if1 .left), lt-leb (length s) longestContent (c .if2 .taken))
 
 two-at-requires : tie.Need-two-at-requires
 two-at-requires c κs = search needs
@@ -36,7 +36,7 @@ returns-3 c =
     let s = c .before .before .before .before .before .args .content .now in
     rw (
       le-leb 5 (length s) (c .before .before .before .if1 .left),
-      le-leb (length s) 1035 (c .before .before .if2 .left),
+      le-leb (length s) longestContent (c .before .before .if2 .left),
       ne-eqb (numberAt 2 s 0) (length s - 2) (λ e. c .if3 .taken (c .before .two-at .ensures ∙ e)),
     )
 
@@ -49,7 +49,7 @@ returns-4 c =
     let s = c .before .before .before .before .before .before .before .args .content .now in
     rw (
       le-leb 5 (length s) (c .before .before .before .before .before .if1 .left),
-      le-leb (length s) 1035 (c .before .before .before .before .if2 .left),
+      le-leb (length s) longestContent (c .before .before .before .before .if2 .left),
       eq-eqb (numberAt 2 s 0) (length s - 2) (sym (c .before .before .before .two-at .ensures) ∙ c .before .before .if3 .left),
       ne-eqb (getD s 2 0) 1 (λ e. c .if4 .taken (c .before .byte-at .ensures ∙ e)),
     )
@@ -75,7 +75,7 @@ returns-5 c =
     let s = c .before .before .before .before .before .before .before .before .before .before .args .content .now in
     rw (
       le-leb 5 (length s) (c .before .before .before .before .before .before .before .before .if1 .left),
-      le-leb (length s) 1035 (c .before .before .before .before .before .before .before .if2 .left),
+      le-leb (length s) longestContent (c .before .before .before .before .before .before .before .if2 .left),
       eq-eqb (numberAt 2 s 0) (length s - 2)
           (sym (c .before .before .before .before .before .before .two-at .ensures) ∙ c .before .before .before .before .before .if3 .left),
       eq-eqb (getD s 2 0) 1 (sym (c .before .before .before .before .byte-at .ensures) ∙ c .before .before .before .if4 .left),
