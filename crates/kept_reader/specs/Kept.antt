@@ -22,6 +22,10 @@ readerBytes = 1047
 abbrev pub storePlace : ℕ
 storePlace = 12
 
+-- Where the payload of a frame begins in the store's place.
+abbrev pub payloadPlace : ℕ
+payloadPlace = 16
+
 abbrev pub flag : Bool → ℕ
 flag true = 1
 flag false = 0

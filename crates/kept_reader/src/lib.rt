@@ -3,8 +3,11 @@ ghost use mathlib.Core.Path.{_≡_};
 ghost use Prim.Native.Nat.{_≤_, _<_};
 ghost use lib.ListN.{length};
 ghost use Rattle.octets.specs.Octets.{partOf, over};
+ghost use Rattle.wire.specs.Frame.{longestContent};
 ghost use Rattle.reader.specs.Reader.{fresh};
 ghost use Rattle.kept_reader.specs.Kept.{
+  readerBytes,
+  storePlace,
   stands,
   readerIn,
   bytesOf,
@@ -17,12 +20,23 @@ ghost use Rattle.kept_reader.specs.Kept.{
 };
 use reader::Heard;
 use reader::Reader;
+use wire::CONTENT_MOST;
+
+// How many bytes a reader takes, where its store begins, and where in it the payload of a frame.
+pub const READER_BYTES: usize = 1047;
+
+const STORE_PLACE: usize = 12;
+
+pub const PAYLOAD_PLACE: usize = 16;
+
+// The most that a count may be.
+const COUNT_MOST: u32 = CONTENT_MOST as u32;
 
 // Makes a fresh reader; 2 where the buffer is too short for one.
 pub fn new(state: &mut [u8]) -> u8
     ensures { λ r. ⌜ record { answer = r; state = now (state .exit) } ≡ keptNew (now (state .entry)) ⌝ }
 {
-    if state.len() < 1047 {
+    if state.len() < READER_BYTES {
         return refusals::NO_ROOM;
     }
     keep(Reader::new(), state);
@@ -34,7 +48,7 @@ pub fn step(state: &mut [u8], byte: u8, command: &mut u8, count: &mut usize) -> 
     ensures { λ r. ⌜ record { answer = r; command = now (command .exit); count = now (count .exit); state = now (state .exit) }
         ≡ keptStep (now (state .entry)) byte ⌝ }
 {
-    if state.len() < 1047 {
+    if state.len() < READER_BYTES {
         *command = 0;
         *count = 0;
         return refusals::NO_ROOM;
@@ -48,7 +62,7 @@ pub fn step(state: &mut [u8], byte: u8, command: &mut u8, count: &mut usize) -> 
 }
 
 fn load(state: &[u8]) -> Reader
-    requires { ⌜ 1047 ≤ length (now state) ⌝ }
+    requires { ⌜ readerBytes ≤ length (now state) ⌝ }
     ensures { λ r. ⌜ r ≡ readerIn (now (state .entry)) ⌝ }
 {
     if !stands_for_one(state) {
@@ -66,7 +80,7 @@ fn load(state: &[u8]) -> Reader
 fn stands_for_one(state: &[u8]) -> bool
     ensures { λ r. ⌜ r ≡ stands (now (state .entry)) ⌝ }
 {
-    if 1035 < octets::four_at(state, 0) {
+    if COUNT_MOST < octets::four_at(state, 0) {
         return false;
     }
     if 1 < octets::four_at(state, 4) {
@@ -75,17 +89,17 @@ fn stands_for_one(state: &[u8]) -> bool
     octets::four_at(state, 8) <= 1
 }
 
-fn store_in(state: &[u8]) -> [u8; 1035]
-    requires { ⌜ 1047 ≤ length (now state) ⌝ }
-    ensures { λ r. ⌜ r ≡ partOf (now (state .entry)) 12 1035 ⌝ }
+fn store_in(state: &[u8]) -> [u8; CONTENT_MOST]
+    requires { ⌜ readerBytes ≤ length (now state) ⌝ }
+    ensures { λ r. ⌜ r ≡ partOf (now (state .entry)) storePlace longestContent ⌝ }
 {
-    let mut store = [0u8; 1035];
-    octets::copy(octets::behind(state, 12), &mut store, 0);
+    let mut store = [0u8; CONTENT_MOST];
+    octets::copy(octets::behind(state, STORE_PLACE), &mut store, 0);
     store
 }
 
 fn keep(reader: Reader, state: &mut [u8])
-    requires { ⌜ 1047 ≤ length (now state) ⌝ }
+    requires { ⌜ readerBytes ≤ length (now state) ⌝ }
     ensures { λ _. ⌜ now (state .exit) ≡ over (bytesOf reader) (now (state .entry)) ⌝ }
 {
     let words = [
@@ -95,7 +109,7 @@ fn keep(reader: Reader, state: &mut [u8])
     ];
     let store = reader.store;
     flat::store(&words, state);
-    octets::copy(&store, state, 12);
+    octets::copy(&store, state, STORE_PLACE);
 }
 
 fn flag_of(set: bool) -> u32
