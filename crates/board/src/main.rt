@@ -56,7 +56,7 @@ fn open_line(count: usize) -> Opened {
 
 // Reads the flash, and keeps its file open to be written.
 fn serve_file(path: &[u8], cable: Cable, opened: bool) {
-    let mut flash = [0u8; 262144];
+    let mut flash = console::flash_room();
     match console::read_whole(path, &mut flash) {
         Got::Count(n) => serve_flash(path, cable, opened, n, &mut flash),
         Got::Failed => (),

@@ -10,7 +10,8 @@ use Rattle.octets.specs.PartLaws.{Sized, lay-all, length-laid, part-most}
 use Rattle.kinds.specs.Kinds.{numberOf, tokenOf}
 use Rattle.kinds.specs.declared.Kind.{Kind}
 use Rattle.pieces.specs.Pieces.{countOf, pieceOf, offsetOf}
-use Rattle.commands.specs.Commands.{parametersFor, packetFor}
+use Rattle.wire.specs.Frame.{longestPayload}
+use Rattle.commands.specs.Commands.{largestPacket, parametersFor, packetFor}
 
 -- The pieces of the payload of 0x02.
 abbrev parametersPieces : Kind → ℕ → Pieces
@@ -59,7 +60,8 @@ length-packet image size k =
     (omega arith)
 
 -- Total, number, size and piece, each put at its place, are the payload at the front.
-pub packet-built : (image : List ℕ) (size k : ℕ) (zeros : List ℕ) → length zeros ≡ 1030 → length (pieceOf image size k) ≤ 1024
+pub packet-built : (image : List ℕ) (size k : ℕ) (zeros : List ℕ) → length zeros ≡ longestPayload
+    → length (pieceOf image size k) ≤ largestPacket
     → take (length (pieceOf image size k) + 6)
     (laid
     (laid

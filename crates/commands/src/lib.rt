@@ -23,6 +23,9 @@ pub const WRONG_SECOND: u8 = 0x02;
 
 pub const NOT_UNDERSTOOD: u8 = 0x10;
 
+// The most bytes that a packet carries.
+pub const PACKET_MOST: usize = 1024;
+
 // Writes 0x02: type, length and token of an image.
 pub fn write_parameters(kind: Kind, length: usize, out: &mut [u8]) -> Written
     ensures { λ r. ⌜ record { answer = r; output = now (out .exit) } ≡ writeOf (parametersFrame kind length) (now (out .entry)) ⌝ }
@@ -41,7 +44,7 @@ pub fn write_packet(image: &[u8], size: usize, number: usize, out: &mut [u8]) ->
 {
     let piece = pieces::piece(image, size, number);
     let n = piece.len();
-    if 1024 < n {
+    if PACKET_MOST < n {
         return Written::Refused(refusals::PAYLOAD_TOO_LONG);
     }
     let mut payload = [0u8; wire::PAYLOAD_MOST];

@@ -1,9 +1,10 @@
 // The reader, kept by its caller as bytes.
 ghost use mathlib.Core.Path.{_≡_};
 ghost use Rattle.octets.specs.Octets.{partOf};
-ghost use Rattle.kept_reader.specs.Kept.{keptNew, keptStep};
+ghost use Rattle.kept_reader.specs.Kept.{payloadPlace, keptNew, keptStep};
 ghost use Rattle.exports.specs.Flat.{stretchOf};
 use crate::files::stretch;
+use kept_reader::PAYLOAD_PLACE;
 
 #[no_mangle]
 pub extern "C" fn zrn_reader_new(state: &mut [u8]) -> u8
@@ -27,7 +28,7 @@ pub extern "C" fn zrn_reader_step(
 
 #[no_mangle]
 pub extern "C" fn zrn_reader_payload(state: &[u8], count: usize, place: &mut usize) -> usize
-    ensures { λ r. ⌜ record { count = r; place = now (place .exit) } ≡ stretchOf 16 (partOf (now (state .entry)) 16 count) ⌝ }
+    ensures { λ r. ⌜ record { count = r; place = now (place .exit) } ≡ stretchOf payloadPlace (partOf (now (state .entry)) payloadPlace count) ⌝ }
 {
-    stretch(state, 16, count, place)
+    stretch(state, PAYLOAD_PLACE, count, place)
 }

@@ -28,6 +28,10 @@ pendingPlace = 8
 abbrev pub storePlace : ℕ
 storePlace = 12
 
+-- The payload of a frame stands in the store, behind Length, device and command.
+abbrev pub payloadPlace : ℕ
+payloadPlace = 16
+
 abbrev pub readerBytes : ℕ
 readerBytes = 1047
 

@@ -16,11 +16,12 @@ use Rattle.reader.specs.declared.steps.Reader.{Reader}
 use Rattle.kept_reader.specs.Kept.{readerBytes, storePlace, bytesOf}
 
 -- A store that the bytes from its place on are copied into.
-pub store-copied : (state : List ℕ) → readerBytes ≤ length state → laid (replicate longestContent 0) 0 (drop storePlace state) ≡ partOf state storePlace longestContent
+pub store-copied : (state : List ℕ) → readerBytes ≤ length state
+    → laid (replicate longestContent 0) 0 (drop storePlace state) ≡ partOf state storePlace longestContent
 unfolding laid partOf
 store-copied state h =
     let store : List ℕ = replicate longestContent 0 in
-    let rest : List ℕ = drop 12 state in
+    let rest : List ℕ = drop storePlace state in
     let size : length store ≡ longestContent = length-replicate {A = ℕ} longestContent 0 in
     let none : drop (0 + length rest) store ≡ [] =
     drop-of-length-le store {i = 0 + length rest} (rw (size, length-drop) (omega arith)) in
@@ -29,10 +30,10 @@ store-copied state h =
     ∙ ap (λ (n : ℕ). take (n - 0) rest) size
 
 -- Three words written at the front and the store behind them.
-pub words-and-store : (ws store state : List ℕ) → length ws ≡ 3 → 12 + length store ≤ length state
-    → laid (recorded ws state) 12 store ≡ over (spelledAll ws ++ store) state
+pub words-and-store : (ws store state : List ℕ) → length ws ≡ 3 → storePlace + length store ≤ length state
+    → laid (recorded ws state) storePlace store ≡ over (spelledAll ws ++ store) state
 unfolding recorded
 words-and-store ws store state three room =
-    let size : length (spelledAll ws) ≡ 12 = length-spelled-all ws ∙ rw three in
+    let size : length (spelledAll ws) ≡ storePlace = length-spelled-all ws ∙ rw three in
     rw (cond-no _ state (over (spelledAll ws) state) (le-ltb (length state / 4) (length ws) (omega (arith, three))))
-    (over-laid (spelledAll ws) state store 12 size room)
+    (over-laid (spelledAll ws) state store storePlace size room)

@@ -20,7 +20,7 @@ use Rattle.reader.specs.Reader.{stepOf, payloadIn}
 use Rattle.reader.specs.SeenLaws.{fresh-known, step-known}
 use Rattle.reader.specs.declared.steps.Reader.{Reader}
 use Rattle.reader.specs.declared.steps.Stepped.{Stepped}
-use Rattle.kept_reader.specs.Kept.{readerBytes, flag, bytesOf, stands, readerIn}
+use Rattle.kept_reader.specs.Kept.{readerBytes, storePlace, payloadPlace, flag, bytesOf, stands, readerIn}
 use Rattle.kept_reader.specs.Kept.{heardNumber, heardCommand, heardCount, Kept, keptNew, keptAfter, keptStep}
 use Rattle.kept_reader.specs.Promises.{Whole, KeptFresh, KeptBack, KeptPayload, stepsOf, callsOf, KeptRun}
 
@@ -66,20 +66,20 @@ module _ (r : Reader) (state : List ℕ) (w : Whole r) (room : readerBytes ≤ l
   pending-back : numberAt 4 (over (bytesOf r) state) 8 ≡ flag (r .pending)
   pending-back = words-back .1 .1 .0
 
-  store-stands : drop 12 (over (bytesOf r) state) ≡ behind
-  store-stands = ap (drop 12) front ∙ drop-at (spelledAll (wordsOf r)) behind 12 (length-spelled-all (wordsOf r))
+  store-stands : drop storePlace (over (bytesOf r) state) ≡ behind
+  store-stands = ap (drop storePlace) front ∙ drop-at (spelledAll (wordsOf r)) behind storePlace (length-spelled-all (wordsOf r))
 
-  store-back : partOf (over (bytesOf r) state) 12 longestContent ≡ r .store
+  store-back : partOf (over (bytesOf r) state) storePlace longestContent ≡ r .store
   unfolding partOf behind
   store-back = ap (take longestContent) store-stands ∙ take-at (r .store) (drop (length (bytesOf r)) state) longestContent (w .size)
 
   -- The payload stands behind the first four bytes of the store.
-  payload-back : (n : ℕ) → n + 4 ≤ longestContent → partOf (over (bytesOf r) state) 16 n ≡ payloadIn (r .store) n
+  payload-back : (n : ℕ) → n + 4 ≤ longestContent → partOf (over (bytesOf r) state) payloadPlace n ≡ payloadIn (r .store) n
   unfolding partOf behind
   payload-back n h =
       let rest : List ℕ = drop (length (bytesOf r)) state in
-      let place : drop 16 (over (bytesOf r) state) ≡ drop 4 (r .store) ++ rest =
-      sym (drop-drop 4 12 (over (bytesOf r) state)) ∙ ap (drop 4) store-stands ∙ drop-append-le 4 (r .store) rest (omega (arith, w .size)) in
+      let place : drop payloadPlace (over (bytesOf r) state) ≡ drop 4 (r .store) ++ rest =
+      sym (drop-drop 4 storePlace (over (bytesOf r) state)) ∙ ap (drop 4) store-stands ∙ drop-append-le 4 (r .store) rest (omega (arith, w .size)) in
       ap (take n) place ∙ take-append-le n (drop 4 (r .store)) rest (rw (length-drop, w .size) (omega arith))
 
   back : readerIn (over (bytesOf r) state) ≡ r

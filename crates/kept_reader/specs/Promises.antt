@@ -9,7 +9,7 @@ use Rattle.flat.specs.Calls.{callsBy}
 use Rattle.reader.specs.Reader.{fresh, stepOf, payloadIn}
 use Rattle.reader.specs.declared.steps.Reader.{Reader}
 use Rattle.reader.specs.declared.steps.Stepped.{Stepped}
-use Rattle.kept_reader.specs.Kept.{readerBytes, bytesOf, readerIn, Kept, keptNew, keptAfter, keptStep}
+use Rattle.kept_reader.specs.Kept.{readerBytes, payloadPlace, bytesOf, readerIn, Kept, keptNew, keptAfter, keptStep}
 
 -- A reader as these calls leave it: its store has 1,035 bytes, and its count is in it.
 pub record Whole (r : Reader) : Type 0 where
@@ -28,7 +28,7 @@ KeptBack = (r : Reader) (state : List ℕ) → Whole r → readerBytes ≤ lengt
 abbrev pub KeptPayload : Type 0
 KeptPayload =
     (r : Reader) (state : List ℕ) (n : ℕ) → Whole r → readerBytes ≤ length state → n + 4 ≤ longestContent
-    → partOf (over (bytesOf r) state) 16 n ≡ payloadIn (r .store) n
+    → partOf (over (bytesOf r) state) payloadPlace n ≡ payloadIn (r .store) n
 
 -- The steps of a reader over some bytes.
 unfoldable pub stepsOf : Reader → List ℕ → List Stepped

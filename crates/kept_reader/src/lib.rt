@@ -32,7 +32,10 @@ const PENDING: usize = 8;
 
 const STORE: usize = 12;
 
-const READER_BYTES: usize = 1047;
+// The payload of a frame stands in the store, behind Length, device and command.
+pub const PAYLOAD_PLACE: usize = 16;
+
+pub const READER_BYTES: usize = 1047;
 
 const COUNT_MOST: u32 = CONTENT_MOST as u32;
 

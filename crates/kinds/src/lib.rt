@@ -8,6 +8,9 @@ pub enum Kind {
     Parameters,
 }
 
+// The longest image.
+const IMAGE_MOST: usize = 262143;
+
 // The kind of a type number, if there is one.
 pub enum Known {
     Is(Kind),
@@ -65,7 +68,7 @@ pub fn fits_file(kind: Kind, length: usize) -> bool
     if length == 0 {
         return false;
     }
-    if 262143 < length {
+    if IMAGE_MOST < length {
         return false;
     }
     length % 4 == 0
@@ -78,7 +81,7 @@ pub fn fits_flash(kind: Kind, length: usize, flash: usize) -> bool
     if length == 0 {
         return false;
     }
-    if length > 262143 {
+    if length > IMAGE_MOST {
         return false;
     }
     base_of(kind) as usize + length <= flash

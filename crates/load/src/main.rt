@@ -31,7 +31,7 @@ fn load_path(options: Options) {
 
 // Reads the whole file, if it is not too large.
 fn load_file(path: &[u8], options: Options) {
-    let mut file = [0u8; 524288];
+    let mut file = console::file_room();
     match console::read_whole(path, &mut file) {
         Got::Count(n) => check(octets::part(&file, 0, n), options),
         Got::Failed => (),

@@ -16,10 +16,10 @@ use Rattle.wire.specs.Write.{writeOf}
 use Rattle.refusals.specs.Written.{refused, written}
 use Rattle.wire.specs.EscapeLaws.{escape-mark, escape-plain, escaped-append, escaped-snoc, escaped-size}
 use Rattle.wire.specs.FrameLaws.{length-unchecked, length-content}
-use Rattle.wire.specs.Frame.{Frame, device, longestPayload, uncheckedOf, contentOf, wireForm, wireOf}
+use Rattle.wire.specs.Frame.{Frame, device, longestPayload, longestContent, uncheckedOf, contentOf, wireForm, wireOf}
 
 -- Length, device, command and payload, each put at its place, are the content before its check.
-pub unchecked-built : (f : Frame) (zeros : List ℕ) → length zeros ≡ 1035 → length (f .payload) ≤ 1030
+pub unchecked-built : (f : Frame) (zeros : List ℕ) → length zeros ≡ longestContent → length (f .payload) ≤ longestPayload
     → laid (set (set (laid zeros 0 (spelled 2 (length (f .payload) + 3))) 2 device) 3 (f .command)) 4 (f .payload)
     ≡ over (uncheckedOf f) zeros
 unfolding uncheckedOf
@@ -35,7 +35,7 @@ unchecked-built f zeros z h =
     rw (a, b, c, d) (ap (λ (front : List ℕ). over front zeros) (simp append-assoc))
 
 -- The check put behind it makes it the content.
-pub content-built : (f : Frame) (zeros : List ℕ) → length zeros ≡ 1035 → length (f .payload) ≤ 1030
+pub content-built : (f : Frame) (zeros : List ℕ) → length zeros ≡ longestContent → length (f .payload) ≤ longestPayload
     → set (over (uncheckedOf f) zeros) (length (f .payload) + 4) (xorOf (uncheckedOf f)) ≡ over (contentOf f) zeros
 unfolding contentOf
 content-built f zeros z h =

@@ -9,15 +9,15 @@ use Rattle.octets.specs.Octets.{laid, spelled}
 use Rattle.pieces.specs.Pieces.{pieceOf}
 use Rattle.wire.specs.Write.{writeOf}
 use Rattle.wire.specs.WriteLaws.{write-too-long}
-use Rattle.wire.specs.Frame.{frame}
-use Rattle.commands.specs.Commands.{packetCommand, packetFrame}
+use Rattle.wire.specs.Frame.{frame, longestPayload}
+use Rattle.commands.specs.Commands.{largestPacket, packetCommand, packetFrame}
 use Rattle.commands.specs.CommandsLaws.{length-packet, packet-built}
 use borrow.Author.Needs.{needs}
 use Rattle.commands.proofs.write_packet.Statement.{statement}
 use Rattle.commands.proofs.write_packet.Tie as tie
 
 -- A piece that passed the test has at most 1,024 bytes.
-at-most : (c : tie.Else1) → length (c .before .piece .result .now) ≤ 1024
+at-most : (c : tie.Else1) → length (c .before .piece .result .now) ≤ largestPacket
 at-most c = omega arith
 
 -- So it fits behind the six.
@@ -30,7 +30,7 @@ room c =
       c .before .before .before .put-two3 .kept .0,
       c .before .before .before .before .before .before .put-two2 .kept .0,
       c .before .before .before .before .before .before .before .before .before .put-two .kept .0,
-      length-replicate {A = ℕ} 1030 0,
+      length-replicate {A = ℕ} longestPayload 0,
     )
 
 piece-requires : tie.Need-piece-requires
@@ -39,7 +39,7 @@ piece-requires c κs = search needs
 returns : tie.Need-returns
 returns c =
     let a = c .before .before .before .before .args in
-    let long : 1024 < length (pieceOf (a .image .now) (a .size) (a .number)) = rw (c .before .piece .ensures) at (c .if1 .taken) in
+    let long : largestPacket < length (pieceOf (a .image .now) (a .size) (a .number)) = rw (c .before .piece .ensures) at (c .if1 .taken) in
     sym
     (write-too-long (packetFrame (a .image .now) (a .size) (a .number)) (a .out .now)
     (omega (arith, long, length-packet (a .image .now) (a .size) (a .number))))
@@ -104,16 +104,16 @@ returns-2 c =
     let few = first .before .before .before in
     let cut = few .before in
     let a = cut .before .before .before .args in
-    let zeros : List ℕ = replicate 1030 0 in
+    let zeros : List ℕ = replicate longestPayload 0 in
     let piece = cut .piece .ensures in
     let total = first .put-two .ensures ∙ ap (λ x. laid zeros 0 (spelled 2 (x % 65536))) (first .before .count .ensures) in
     let number = second .put-two2 .ensures ∙ ap (λ l. laid l 2 (spelled 2 (a .number % 65536))) total in
     let size = third .put-two3 .ensures ∙ ap₂ (λ l p. laid l 4 (spelled 2 (length p % 65536))) number piece in
     let whole = fourth .copy .ensures ∙ ap₂ (λ l p. laid l 6 p) size piece in
-    let short : length (pieceOf (a .image .now) (a .size) (a .number)) ≤ 1024 = rw piece at (at-most few) in
+    let short : length (pieceOf (a .image .now) (a .size) (a .number)) ≤ largestPacket = rw piece at (at-most few) in
     let built =
     ap₂ (λ p l. take (length p + 6) l) piece whole
-    ∙ packet-built (a .image .now) (a .size) (a .number) zeros (length-replicate {A = ℕ} 1030 0) short in
+    ∙ packet-built (a .image .now) (a .size) (a .number) zeros (length-replicate {A = ℕ} longestPayload 0) short in
     c .before .before .write .ensures ∙ ap (λ p. writeOf (frame packetCommand p) (a .out .now)) built
 
 pub write-packet-spec : {M : Type 1} → statement M

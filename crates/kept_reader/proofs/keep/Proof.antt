@@ -4,9 +4,10 @@ use mathlib.Core.List.{[], _∷_}
 use mathlib.Core.Path.{_≡_, refl, sym, ap, _∙_}
 use native.Mathlib.Omega.{arith}
 use lib.ListN.{length}
+use Rattle.wire.specs.Frame.{longestContent}
 use Rattle.octets.specs.Octets.{laid}
 use Rattle.flat.specs.Words.{recorded}
-use Rattle.kept_reader.specs.Kept.{bytesOf}
+use Rattle.kept_reader.specs.Kept.{storePlace, bytesOf}
 use Rattle.kept_reader.specs.KeptLaws.{words-and-store}
 use borrow.Author.Needs.{needs}
 use Rattle.kept_reader.proofs.keep.Statement.{statement}
@@ -55,9 +56,9 @@ returns : tie.Need-returns
 unfolding bytesOf
 returns c =
     let a = c .before .before .before .before .before .before .before .before .before .before .before .before .before .before .before .args in
-    let size : length (a .reader .store) ≡ 1035 = sym (slice-aggregate-copy (c .before .before .before .before)) in
+    let size : length (a .reader .store) ≡ longestContent = sym (slice-aggregate-copy (c .before .before .before .before)) in
     c .before .before .copy .ensures
-    ∙ ap (λ d. laid d 12 (a .reader .store)) (c .before .before .before .before .before .before .before .store2 .ensures)
+    ∙ ap (λ d. laid d storePlace (a .reader .store)) (c .before .before .before .before .before .before .before .store2 .ensures)
     ∙ words-and-store _ (a .reader .store) (a .state .now) refl (rw size (c .before .before .before .before .before .before .before .before .before .before .before .before .before .before .before .pre))
     ∙ rw (c .before .before .before .before .before .before .before .before .before .before .before .before .before .low .ensures, c .before .before .before .before .before .before .before .before .before .before .before .before .flag-of .ensures, c .before .before .before .before .before .before .before .before .before .before .before .flag-of2 .ensures)
 

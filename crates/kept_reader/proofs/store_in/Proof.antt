@@ -1,6 +1,7 @@
 -- `store_in`: the bytes behind the words, as many as a store has.
 use mathlib.Core.Path.{_≡_, ap, _∙_}
 use lib.ListN.{replicate}
+use Rattle.wire.specs.Frame.{longestContent}
 use Rattle.octets.specs.Octets.{laid}
 use Rattle.kept_reader.specs.KeptLaws.{store-copied}
 use borrow.Author.Needs.{needs}
@@ -26,7 +27,7 @@ copy-requires c κs = search needs
 -- src/lib.rt:78:1
 returns : tie.Need-returns
 returns c = c .before .copy .ensures
-    ∙ ap (λ s. laid (replicate 1035 0) 0 s) (c .before .before .before .behind .ensures)
+    ∙ ap (λ s. laid (replicate longestContent 0) 0 s) (c .before .before .before .behind .ensures)
     ∙ store-copied _ (c .before .before .before .before .before .pre)
 
 pub store-in-spec : {M : Type 1} → statement M

@@ -2,7 +2,7 @@
 use native.Mathlib.Omega.{arith}
 use borrow.Author.Needs.{needs}
 use borrow.Author.Tests.{le-leb, lt-leb}
-use Rattle.kinds.specs.Kinds.{fitsFlash}
+use Rattle.kinds.specs.Kinds.{longestImage, fitsFlash}
 use Rattle.kinds.proofs.fits_flash.Statement.{statement}
 use Rattle.kinds.proofs.fits_flash.Tie as tie
 
@@ -12,7 +12,7 @@ returns c = let n = c .before .args .length in rw (lt-leb 1 n (omega arith))
 
 returns-2 : tie.Need-returns-2
 unfolding fitsFlash
-returns-2 c = let n = c .before .before .args .length in rw (le-leb 1 n (omega arith), lt-leb n 262143 (omega arith))
+returns-2 c = let n = c .before .before .args .length in rw (le-leb 1 n (omega arith), lt-leb n longestImage (omega arith))
 
 base-of-requires : tie.Need-base-of-requires
 base-of-requires c κs = search needs
@@ -27,7 +27,7 @@ returns-3 : tie.Need-returns-3
 unfolding fitsFlash
 returns-3 c =
     let n = c .before .before .before .args .length in
-    rw (le-leb 1 n (omega arith), le-leb n 262143 (omega arith), c .base-of .ensures)
+    rw (le-leb 1 n (omega arith), le-leb n longestImage (omega arith), c .base-of .ensures)
 
 pub fits-flash-spec : {M : Type 1} → statement M
 fits-flash-spec = tie.close (tie.spec returns returns-2 base-of-requires cast-result add-result returns-3)

@@ -7,7 +7,7 @@ use lib.ListN.{length, set, take, replicate, length-replicate}
 use lib.Seq.{length-take-le}
 use Rattle.octets.specs.Octets.{laid, over, xorOf}
 use Rattle.octets.specs.OctetsLaws.{length-over, take-over}
-use Rattle.wire.specs.Frame.{Frame, frame, uncheckedOf, contentOf}
+use Rattle.wire.specs.Frame.{Frame, frame, longestContent, uncheckedOf, contentOf}
 use Rattle.wire.specs.FrameLaws.{length-unchecked, length-content}
 use Rattle.wire.specs.WriteLaws.{unchecked-built, content-built}
 use borrow.Author.Needs.{needs}
@@ -60,8 +60,8 @@ returns : tie.Need-returns
 returns c =
     let a = c .before .before .before .before .before .before .before .before .before .args in
     let f : Frame = frame (a .command) (a .payload .now) in
-    let zeros : List ℕ = replicate 1035 0 in
-    let size : length zeros ≡ 1035 = length-replicate {A = ℕ} 1035 0 in
+    let zeros : List ℕ = replicate longestContent 0 in
+    let size : length zeros ≡ longestContent = length-replicate {A = ℕ} longestContent 0 in
     let few = c .before .before .before .before .before .before .before .before .before .pre in
     let put : c .before .before .before .copy .last .1 .0 ≡ over (uncheckedOf f) zeros =
     c .before .before .before .copy .ensures
