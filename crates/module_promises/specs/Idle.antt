@@ -43,9 +43,7 @@ time-only s ms o =
     (λ e c. absurd (false≢true (sym o ∙ c)))
     (λ e c. omega (arith, leb-false ms (longestIdle - s .idle) e))
 
--- ---- frames
-
--- Such a reply is no refusal.
+-- A reply is no refusal.
 pub reply-taken : (fs : List wire.Frame) → isRefused (answerOf fs) ≡ false
 reply-taken [] = refl
 reply-taken (f ∷ fs) = refl

@@ -1,5 +1,6 @@
 -- The runs that the promises speak of, the promises, and below them their proofs: what a step can be (Steps, Forward), what is heard
--- (Said), and a file for each promise; two names spelled out (Readings); and wrong steps that break a promise (Wrong).
+-- (Said), and a file for each promise; two names spelled out (Readings); and wrong steps that break a promise (Wrong, and WrongNever
+-- over a tiny transfer).
 pub mod Runs
 pub mod Promises
 pub mod RunsLaws
@@ -14,4 +15,7 @@ pub mod Flash
 pub mod Reach
 pub mod Clean
 pub mod Readings
+pub mod Of
+pub mod Tiny
 pub mod Wrong
+pub mod WrongNever

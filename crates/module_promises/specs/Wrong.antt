@@ -6,12 +6,12 @@ use mathlib.Core.Path.{_≡_, refl, ap}
 use native.Mathlib.Omega.{arith}
 use lib.Dec.{eqb, ltb}
 use lib.ListN.{length, getD, replicate}
-use Rattle.refusals.specs.Refusals.{noRoom, wrongLength}
-use Rattle.module_model.specs.Answers.{refusalIn}
 use Rattle.octets.specs.Octets.{numberAt, little, laid}
 use Rattle.kinds.specs.Kinds.{fitsFlash}
 use Rattle.kinds.specs.declared.Kind.the-variants.{Upgrade}
+use Rattle.refusals.specs.Refusals.{noRoom, wrongLength}
 use Rattle.commands.specs.Commands.{packetCommand}
+use Rattle.module_model.specs.Answers.{refusalIn}
 use Rattle.module_model.specs.Phases.{openable, alive, closedArises}
 use Rattle.module_model.specs.Rules.{decideOf, packetDecision, wellFormed, numbersIn, firstDecision, cutsInto, phaseAt}
 use Rattle.module.specs.Session.{session, stepped, openingOf, takes, arises}
@@ -19,17 +19,15 @@ use Rattle.module.specs.Step.{Left, left, smallestReply, timeStep, frameStep, s
 use Rattle.module.specs.StepLaws.{step-no-room}
 use Rattle.module_promises.specs.Runs.{Given}
 use Rattle.module_promises.specs.Idle.{refused-leaves}
+use Rattle.module_promises.specs.Of.{Step}
+use Rattle.module_promises.specs.Promises.{online}
+use Rattle.module_promises.specs.Arises.{opening-arises}
 use Rattle.module_model.specs.declared.phases.Phase.the-variants.{Closed, Ready, Begun}
 use Rattle.module_model.specs.declared.events.Event.{Event}
 use Rattle.module_model.specs.declared.events.Event.the-variants.{Frame, Elapsed}
 use Rattle.module_model.specs.declared.events.Answer.the-variants.{Refused}
-use Rattle.module_promises.specs.Promises.{online}
-use Rattle.module_promises.specs.Arises.{opening-arises}
 use Rattle.module.specs.declared.session.Session.{Session}
 use Rattle.module.specs.declared.session.Stepped.{Stepped}
-
-abbrev pub Step : Type 0
-Step = Session → Event → List ℕ → List ℕ → List ℕ → Left
 
 -- ---- a refused event leaves the sum
 
