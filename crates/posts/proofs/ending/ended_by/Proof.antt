@@ -36,10 +36,10 @@ ended-with-requires-5 : tie.Need-ended-with-requires-5
 ended-with-requires-5 c κs = search needs
 
 returns : tie.Need-returns
-returns c = search needs
+returns c = c .ended-with .ensures ∙ ap endingOf (sym (c .before .enum-told .given .1))
 
 returns-2 : tie.Need-returns-2
-returns-2 c = search needs
+returns-2 c = c .ended-with2 .ensures ∙ ap endingOf (sym (c .before .enum-told2 .given .1))
 
 returns-3 : tie.Need-returns-3
 returns-3 c = c .ended-with3 .ensures ∙ ap endingOf (sym (c .before .enum-told3 .given .1))
