@@ -1,5 +1,4 @@
 // Loads a UBF file over a simulated line with noise, and judges the flash after each block.
-mod meeting;
 mod verdict;
 
 use crate::verdict::Counts;
