@@ -1,5 +1,4 @@
 // Loads a UBF file over a simulated line with noise, and judges the flash after each block.
-mod meeting;
 mod verdict;
 
 use crate::verdict::Counts;
@@ -42,7 +41,7 @@ fn main() {
 
 // Reads the whole file, if it is not too large, and loads it.
 fn load_file(path: &[u8], wish: Wish) {
-    let mut file = [0u8; 524288];
+    let mut file = console::file_room();
     match console::read_whole(path, &mut file) {
         Got::Count(n) => load_blocks(octets::part(&file, 0, n), wish),
         Got::Failed => (),
@@ -71,9 +70,14 @@ fn load_blocks(file: &[u8], wish: Wish) {
     }
 }
 
-// Each block by a session of its own, over one flash that begins all FF, as an erased one does.
+// A flash begins all FF, as an erased one does.
+fn erased() -> [u8; 262144] {
+    [0xFFu8; 262144]
+}
+
+// Each block by a session of its own, over one flash.
 fn load_all(file: &[u8], count: usize, wish: Wish) {
-    let mut flash = [0xFFu8; 262144];
+    let mut flash = erased();
     let walk = load_each(file, count, wish, &mut flash);
     console::say(b"verdict: ");
     console::number(walk.done);
@@ -126,7 +130,7 @@ fn show_block(n: usize, block: Block) {
 
 // Loads a block, and judges the flash against the image and against a copy from before. A block that is not done is the last one.
 fn load_block(walk: Walk, block: Block, bytes: &[u8], rate: u64, flash: &mut [u8]) -> Walk {
-    let mut before = [0u8; 262144];
+    let mut before = console::flash_room();
     octets::copy(flash, &mut before, 0);
     let image = ubf::image(bytes, block);
     let post = walk.post;

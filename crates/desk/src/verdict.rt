@@ -1,7 +1,7 @@
 // What is said of a load when it has ended.
-use crate::meeting::Log;
 use lanes::Lane;
 use libc::STDOUT_FILENO;
+use meeting::Log;
 use posts::show_ending;
 
 // What the ends have counted.

@@ -1,4 +1,5 @@
-// The two ends and the two lanes, and the turns of a load.
+// A load over a simulated line: the two ends, the two lanes, and their turns. As in `console`, these calls are proved to be safe and to end, and
+// what they do is tested.
 use host::Answer;
 use host::Session;
 use kinds::Kind;

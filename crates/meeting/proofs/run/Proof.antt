@@ -2,8 +2,8 @@
 use borrow.Author.Needs.{needs}
 use mathlib.Core.Path.{_≡_}
 use lib.ListN.{length}
-use Rattle.desk.proofs.meeting.run.Statement.{statement}
-use Rattle.desk.proofs.meeting.run.Tie as tie
+use Rattle.meeting.proofs.run.Statement.{statement}
+use Rattle.meeting.proofs.run.Tie as tie
 
 abbrev Inv-loop : tie.InvT-loop
 Inv-loop image flash₀ out₀ back₀ next₀ turns₀ flash out back next turns = (length flash ≡ length flash₀) × (length out ≡ length out₀) × (length back ≡ length back₀)
