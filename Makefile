@@ -2,9 +2,7 @@
 .PHONY: demo test
 
 demo:
-	@mkdir -p target
-	@echo "proving and building (target/demo.log has the words of the check) .."
-	@rt check pack desk >target/demo.log 2>&1 || { cat target/demo.log; exit 1; }
+	@tools/prove pack desk
 	@echo
 	@echo "tests/desk/image.hex, packed as type 1:"
 	@tools/bytes tests/desk/image.hex >target/sample.bin

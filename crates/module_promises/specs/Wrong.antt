@@ -5,26 +5,21 @@ use mathlib.Core.List.{List, [], _∷_}
 use mathlib.Core.Path.{_≡_, refl, ap}
 use native.Mathlib.Omega.{arith}
 use lib.Dec.{eqb, ltb}
-use lib.ListN.{length, getD, replicate}
-use Rattle.octets.specs.Octets.{numberAt, little, laid}
-use Rattle.kinds.specs.Kinds.{fitsFlash}
-use Rattle.kinds.specs.declared.Kind.the-variants.{Upgrade}
+use lib.ListN.{length}
 use Rattle.refusals.specs.Refusals.{noRoom, wrongLength}
-use Rattle.commands.specs.Commands.{packetCommand}
 use Rattle.module_model.specs.Answers.{refusalIn}
 use Rattle.module_model.specs.Phases.{openable, alive, closedArises}
-use Rattle.module_model.specs.Rules.{decideOf, packetDecision, wellFormed, numbersIn, firstDecision, cutsInto, phaseAt}
 use Rattle.module.specs.Session.{session, stepped, openingOf, takes, arises}
-use Rattle.module.specs.Step.{Left, left, smallestReply, timeStep, frameStep, stepOf}
+use Rattle.module.specs.Step.{Left, left, smallestReply, stepOf}
 use Rattle.module.specs.StepLaws.{step-no-room}
 use Rattle.module_promises.specs.Runs.{Given}
 use Rattle.module_promises.specs.Idle.{refused-leaves}
 use Rattle.module_promises.specs.Of.{Step}
 use Rattle.module_promises.specs.Promises.{online}
 use Rattle.module_promises.specs.Arises.{opening-arises}
-use Rattle.module_model.specs.declared.phases.Phase.the-variants.{Closed, Ready, Begun}
+use Rattle.module_model.specs.declared.phases.Phase.the-variants.{Closed, Ready}
 use Rattle.module_model.specs.declared.events.Event.{Event}
-use Rattle.module_model.specs.declared.events.Event.the-variants.{Frame, Elapsed}
+use Rattle.module_model.specs.declared.events.Event.the-variants.{Elapsed}
 use Rattle.module_model.specs.declared.events.Answer.the-variants.{Refused}
 use Rattle.module.specs.declared.session.Session.{Session}
 use Rattle.module.specs.declared.session.Stepped.{Stepped}
@@ -96,35 +91,3 @@ countsRefused flash = cond (openable (length flash)) (openingOf flash) (stepped 
 pub counts-refused-refuted : OpeningArisesOf countsRefused → ⊥
 unfolding openable arises takes alive closedArises
 counts-refused-refuted promise = false≢true (promise [])
-
--- ---- a step that moves nothing
-
--- The step hands back the session or the flash as it was passed; neither holds of ours.
-abbrev pub SessionStaysOf : Step → Type 0
-SessionStaysOf step = (s : Session) (e : Event) (payload flash reply : List ℕ) → step s e payload flash reply .session ≡ s
-
-abbrev pub FlashStaysOf : Step → Type 0
-FlashStaysOf step = (s : Session) (e : Event) (payload flash reply : List ℕ) → step s e payload flash reply .flash ≡ flash
-
-abbrev room : List ℕ
-room = replicate smallestReply 0
-
-pub session-stays-refuted : SessionStaysOf stepOf → ⊥
-unfolding stepOf takes alive openable timeStep
-session-stays-refuted promise =
-    let same : _≡_ {A = ℕ} 6 5 = ap (λ (s : Session). s .idle) (promise waited (Elapsed 1) [] (0 ∷ []) room) in
-    omega (arith, same)
-
--- A transfer of four bytes that waits for packet 1, and that packet.
-abbrev begun : Session
-begun = session 4 0 (Begun (record { kind = Upgrade; length = 4 }))
-
-abbrev first : List ℕ
-first = 1 ∷ 0 ∷ 1 ∷ 0 ∷ 4 ∷ 0 ∷ 1 ∷ 2 ∷ 3 ∷ 4 ∷ []
-
-pub flash-stays-refuted : FlashStaysOf stepOf → ⊥
-unfolding stepOf takes alive openable fitsFlash frameStep decideOf packetDecision wellFormed numbersIn numberAt little firstDecision
-    cutsInto phaseAt laid
-flash-stays-refuted promise =
-    let same : _≡_ {A = ℕ} 1 9 = ap (λ (l : List ℕ). getD l 0 0) (promise begun (Frame packetCommand 10) first (9 ∷ 9 ∷ 9 ∷ 9 ∷ []) room) in
-    omega (arith, same)
