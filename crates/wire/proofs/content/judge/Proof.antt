@@ -1,15 +1,32 @@
 -- `wire::judge`: the tests in the order of the definition; each that fails decides.
-use Prim.Native.Nat.{_-_}
-use mathlib.Core.Path.{sym, _∙_}
+use Prim.Native.Nat.{ℕ, _-_, _≤_}
+use mathlib.Core.Bool.{Bool, cond}
+use mathlib.Core.List.{List}
+use mathlib.Core.Path.{_≡_, sym, _∙_}
+use lib.Dec.{eqb}
 use native.Mathlib.Omega.{arith}
 use borrow.Author.Tests.{le-leb, lt-leb, eq-eqb, ne-eqb}
 use lib.ListN.{length, getD, take}
 use lib.Seq.{length-take-le}
 use Rattle.octets.specs.Octets.{numberAt, xorOf}
-use Rattle.wire.specs.Frame.{verdictOf}
+use Rattle.wire.specs.Frame.{device, shortestContent, longestContent, verdictOf}
+use Rattle.wire.specs.declared.content.Verdict.the-variants.{Good, Bad}
 use borrow.Author.Needs.{needs}
 use Rattle.wire.proofs.content.judge.Statement.{statement}
 use Rattle.wire.proofs.content.judge.Tie as tie
+
+-- Where length, Length and device are right, the check decides.
+at-check : (s : List ℕ) {right : Bool} → 5 ≤ length s → length s ≤ longestContent → numberAt 2 s 0 ≡ length s - 2 → getD s 2 0 ≡ device
+    → eqb (getD s (length s - 1) 0) (xorOf (take (length s - 1) s)) ≡ right → verdictOf s ≡ cond right Good Bad
+unfolding verdictOf
+at-check s long short counted ours check =
+    rw (
+      le-leb shortestContent (length s) long,
+      le-leb (length s) longestContent short,
+      eq-eqb (numberAt 2 s 0) (length s - 2) counted,
+      eq-eqb (getD s 2 0) device ours,
+      check,
+    )
 
 returns : tie.Need-returns
 unfolding verdictOf
@@ -70,32 +87,24 @@ xor-requires : tie.Need-xor-requires
 xor-requires c κs = search needs
 
 returns-5 : tie.Need-returns-5
-unfolding verdictOf
 returns-5 c =
     let b = c .before in
     let s = b .before .before .before .before .before .before .before .before .before .before .args .content .now in
-    rw (
-      le-leb 5 (length s) (b .before .before .before .before .before .before .before .before .if1 .left),
-      le-leb (length s) 1035 (b .before .before .before .before .before .before .before .if2 .left),
-      eq-eqb (numberAt 2 s 0) (length s - 2)
-          (sym (b .before .before .before .before .before .before .two-at .ensures) ∙ b .before .before .before .before .before .if3 .left),
-      eq-eqb (getD s 2 0) 1 (sym (b .before .before .before .before .byte-at .ensures) ∙ b .before .before .before .if4 .left),
-      ne-eqb (getD s (length s - 1) 0) (xorOf (take (length s - 1) s)) (λ e. c .if5 .taken (b .before .before .byte-at2 .ensures ∙ e ∙ sym (b .xor .ensures))),
-    )
+    sym (at-check s (b .before .before .before .before .before .before .before .before .if1 .left)
+    (b .before .before .before .before .before .before .before .if2 .left)
+    (sym (b .before .before .before .before .before .before .two-at .ensures) ∙ b .before .before .before .before .before .if3 .left)
+    (sym (b .before .before .before .before .byte-at .ensures) ∙ b .before .before .before .if4 .left)
+    (ne-eqb (getD s (length s - 1) 0) (xorOf (take (length s - 1) s)) (λ e. c .if5 .taken (b .before .before .byte-at2 .ensures ∙ e ∙ sym (b .xor .ensures)))))
 
 returns-6 : tie.Need-returns-6
-unfolding verdictOf
 returns-6 c =
     let b = c .before in
     let s = b .before .before .before .before .before .before .before .before .before .before .args .content .now in
-    rw (
-      le-leb 5 (length s) (b .before .before .before .before .before .before .before .before .if1 .left),
-      le-leb (length s) 1035 (b .before .before .before .before .before .before .before .if2 .left),
-      eq-eqb (numberAt 2 s 0) (length s - 2)
-          (sym (b .before .before .before .before .before .before .two-at .ensures) ∙ b .before .before .before .before .before .if3 .left),
-      eq-eqb (getD s 2 0) 1 (sym (b .before .before .before .before .byte-at .ensures) ∙ b .before .before .before .if4 .left),
-      eq-eqb (getD s (length s - 1) 0) (xorOf (take (length s - 1) s)) (sym (b .before .before .byte-at2 .ensures) ∙ c .if5 .left ∙ b .xor .ensures),
-    )
+    sym (at-check s (b .before .before .before .before .before .before .before .before .if1 .left)
+    (b .before .before .before .before .before .before .before .if2 .left)
+    (sym (b .before .before .before .before .before .before .two-at .ensures) ∙ b .before .before .before .before .before .if3 .left)
+    (sym (b .before .before .before .before .byte-at .ensures) ∙ b .before .before .before .if4 .left)
+    (eq-eqb (getD s (length s - 1) 0) (xorOf (take (length s - 1) s)) (sym (b .before .before .byte-at2 .ensures) ∙ c .if5 .left ∙ b .xor .ensures)))
 
 pub judge-spec : {M : Type 1} → statement M
 judge-spec =
