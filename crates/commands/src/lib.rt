@@ -1,7 +1,7 @@
-// The commands of both ends by number, their acknowledgements, and the two commands whose payload takes some building.
+// The commands of both ends by number, their acknowledgements, the texts before them, and the four commands as the host sends them.
 ghost use mathlib.Core.Path.{_≡_};
 ghost use Rattle.wire.specs.Write.{writeOf};
-ghost use Rattle.commands.specs.Commands.{parametersFrame, packetFrame};
+ghost use Rattle.commands.specs.Commands.{rateFrame, parametersFrame, packetFrame, restartFrame};
 use kinds::Kind;
 use refusals::Written;
 
@@ -23,8 +23,22 @@ pub const WRONG_SECOND: u8 = 0x02;
 
 pub const NOT_UNDERSTOOD: u8 = 0x10;
 
-// The most bytes that a packet carries.
-pub const PACKET_MOST: usize = 1024;
+// The largest packet and the largest Total.
+pub const LARGEST_PACKET: usize = 1024;
+
+pub const LARGEST_TOTAL: usize = 65535;
+
+// The start text and its answer, each with CR LF.
+pub const START_TEXT: [u8; 12] = *b"$PCAS20*03\r\n";
+
+pub const START_ANSWER: [u8; 14] = *b"$PCAS30,3*1D\r\n";
+
+// Writes 0x01: the rate.
+pub fn write_rate(rate: u8, out: &mut [u8]) -> Written
+    ensures { λ r. ⌜ record { answer = r; output = now (out .exit) } ≡ writeOf (rateFrame rate) (now (out .entry)) ⌝ }
+{
+    wire::write(RATE, &[rate], out)
+}
 
 // Writes 0x02: type, length and token of an image.
 pub fn write_parameters(kind: Kind, length: usize, out: &mut [u8]) -> Written
@@ -44,7 +58,7 @@ pub fn write_packet(image: &[u8], size: usize, number: usize, out: &mut [u8]) ->
 {
     let piece = pieces::piece(image, size, number);
     let n = piece.len();
-    if PACKET_MOST < n {
+    if LARGEST_PACKET < n {
         return Written::Refused(refusals::PAYLOAD_TOO_LONG);
     }
     let mut payload = [0u8; wire::PAYLOAD_MOST];
@@ -57,4 +71,11 @@ pub fn write_packet(image: &[u8], size: usize, number: usize, out: &mut [u8]) ->
     octets::put_two(&mut payload, 4, (n % 65536) as u16);
     octets::copy(piece, &mut payload, 6);
     wire::write(PACKET, &payload[..n + 6], out)
+}
+
+// Writes 0x06, which carries nothing.
+pub fn write_restart(out: &mut [u8]) -> Written
+    ensures { λ r. ⌜ record { answer = r; output = now (out .exit) } ≡ writeOf restartFrame (now (out .entry)) ⌝ }
+{
+    wire::write(RESTART, &[], out)
 }

@@ -18,7 +18,7 @@ pub(crate) fn send(plan: Plan, stage: Stage, image: &[u8], out: &mut [u8]) -> Wr
     let kind = plan.kind;
     match stage {
         Stage::Text => send_text(out),
-        Stage::Asking(rate) => wire::write(commands::RATE, &[rate_number(rate)], out),
+        Stage::Asking(rate) => commands::write_rate(rate_number(rate), out),
         Stage::Declaring(_) => commands::write_parameters(kind, image.len(), out),
         Stage::Sending { rate, size, number } => commands::write_packet(image, size, number, out),
         Stage::Noticing { rate, size } => {
@@ -31,13 +31,13 @@ pub(crate) fn send(plan: Plan, stage: Stage, image: &[u8], out: &mut [u8]) -> Wr
 pub(crate) fn send_restart(out: &mut [u8]) -> Written
     ensures { λ r. ⌜ record { answer = r; output = now (out .exit) } ≡ sentOf (goesOut restartFrame) (now (out .entry)) ⌝ }
 {
-    wire::write(commands::RESTART, &[], out)
+    commands::write_restart(out)
 }
 
 fn send_text(out: &mut [u8]) -> Written
     ensures { λ r. ⌜ record { answer = r; output = now (out .exit) } ≡ sentOf startText (now (out .entry)) ⌝ }
 {
-    let text = b"$PCAS20*03\r\n";
+    let text = &commands::START_TEXT;
     if out.len() < text.len() {
         return Written::Refused(refusals::NO_ROOM);
     }

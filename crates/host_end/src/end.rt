@@ -37,7 +37,7 @@ impl HostEnd {
     pub fn hear(self, byte: u8, image: &[u8], out: &mut [u8]) -> HostStep
         ensures { λ r. ⌜ hostLeft r (now (out .exit)) ≡ hostHears self byte (now (image .entry)) (now (out .entry)) ⌝ }
     {
-        let seen = follow(b"$PCAS30,3*1D\r\n", self.seen, byte);
+        let seen = follow(&commands::START_ANSWER, self.seen, byte);
         let reader = self.reader;
         let session = self.session;
         let read = reader.step(byte);
@@ -125,7 +125,7 @@ fn line(
     ensures { λ r. ⌜ hostLeft r (now (out .exit))
         ≡ lineHeard reader seen session dropped (now (image .entry)) (now (out .entry)) ⌝ }
 {
-    let text = b"$PCAS30,3*1D\r\n";
+    let text = &commands::START_ANSWER;
     if seen == text.len() {
         let next = session.step(Event::Line { count: text.len() }, text, image, out);
         let after = next.session;

@@ -8,11 +8,11 @@ ghost use Rattle.module_model.specs.Rules.{numbersIn, wellFormed, notTaken, cut
 ghost use Rattle.module_model.specs.Rules.{stateOf, sayOf, acknowledged, taken, repeatDecision, firstDecision, loadingDecision};
 ghost use Rattle.module_model.specs.Rules.{doneDecision, phaseDecision, packetDecision, decideOf, putOf};
 ghost use Rattle.module_model.specs.PhasesLaws.{Bounded, BoundedPhase};
+use commands::LARGEST_PACKET;
 use kinds::Kind;
 use kinds::Known;
 use module_model::ADDRESS_AT;
 use module_model::Decision;
-use module_model::LARGEST_PACKET;
 use module_model::LENGTH_AT;
 use module_model::Numbers;
 use module_model::PACKET_HEAD;

@@ -9,12 +9,12 @@ ghost use Rattle.module.specs.Step.{left, smallestReply, frameStep, time
 use crate::replies::send;
 use crate::rules::decide;
 use crate::rules::store;
+use commands::LARGEST_PACKET;
+use commands::LARGEST_TOTAL;
 use module_model::Answer;
 use module_model::CLOSING_IDLE;
 use module_model::Event;
 use module_model::LARGEST_FLASH;
-use module_model::LARGEST_PACKET;
-use module_model::LARGEST_TOTAL;
 use module_model::LONGEST_IDLE;
 use module_model::Phase;
 use module_model::Pieces;

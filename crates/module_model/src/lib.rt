@@ -15,8 +15,6 @@ pub use phases::Pieces;
 pub use phases::Transfer;
 pub use rules::ADDRESS_AT;
 pub use rules::Decision;
-pub use rules::LARGEST_PACKET;
-pub use rules::LARGEST_TOTAL;
 pub use rules::LENGTH_AT;
 pub use rules::Numbers;
 pub use rules::PACKET_HEAD;

@@ -1,11 +1,6 @@
 // What the rules decide.
 use crate::phases::Phase;
 
-// The largest packet and the largest Total.
-pub const LARGEST_PACKET: usize = 1024;
-
-pub const LARGEST_TOTAL: usize = 65535;
-
 // The payload of parameters: the type at its front, the length and the address behind it.
 pub const PARAMETERS_LENGTH: usize = 10;
 

@@ -69,7 +69,7 @@ impl Post {
             ≡ postHears self byte (now (flash .entry)) (now (reply .entry)) ⌝ }
     {
         if !self.is_open() {
-            let seen = host_end::follow(b"$PCAS20*03\r\n", self.seen, byte);
+            let seen = host_end::follow(&commands::START_TEXT, self.seen, byte);
             return self.listens(seen, flash, reply);
         }
         let board = self.board;
@@ -113,7 +113,7 @@ impl Post {
         ensures { λ r. ⌜ postLeft r (now (flash .entry)) (now (reply .exit))
             ≡ listens self seen (now (flash .entry)) (now (reply .entry)) ⌝ }
     {
-        if seen == 12 {
+        if seen == commands::START_TEXT.len() {
             return self.begins(flash, reply);
         }
         let mut next = self;
@@ -126,12 +126,12 @@ impl Post {
         ensures { λ r. ⌜ postLeft r (now (flash .entry)) (now (reply .exit))
             ≡ begins self (now (flash .entry)) (now (reply .entry)) ⌝ }
     {
-        if reply.len() < 14 {
+        if reply.len() < commands::START_ANSWER.len() {
             return self.says(Answer::Nothing);
         }
-        octets::copy(b"$PCAS30,3*1D\r\n", reply, 0);
+        octets::copy(&commands::START_ANSWER, reply, 0);
         let next = self.opened(flash);
-        next.says(Answer::Sent(14))
+        next.says(Answer::Sent(commands::START_ANSWER.len()))
     }
 
     fn says(self, answer: Answer) -> PostStep

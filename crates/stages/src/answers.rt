@@ -2,8 +2,8 @@
 ghost use mathlib.Core.Path.{_≡_};
 ghost use Prim.Native.Nat.{_<_};
 ghost use Rattle.host_model.specs.Answers.{byAck, lowerMove, rateMove, pieceSize, sizeMove, parametersMove, acceptedMove, sameMove, packetMove, noticeMove, fitting, rateAnswer, parametersAnswer, packetAnswer, noticeAnswer, restartAnswer, frameMove, textMove, lineMove};
-use crate::fits::LARGEST_PACKET;
-use crate::fits::LARGEST_TOTAL;
+use commands::LARGEST_PACKET;
+use commands::LARGEST_TOTAL;
 use host_model::Move;
 use host_model::Plan;
 use host_model::Rate;
@@ -129,7 +129,7 @@ pub fn line_move(plan: Plan, stage: Stage, line: &[u8]) -> Move
 fn text_move(first: Rate, line: &[u8]) -> Move
     ensures { λ r. ⌜ r ≡ textMove first (now (line .entry)) ⌝ }
 {
-    if octets::same(line, b"$PCAS30,3*1D\r\n") {
+    if octets::same(line, &commands::START_ANSWER) {
         return Move::Enter(Stage::Asking(first));
     }
     Move::Stay

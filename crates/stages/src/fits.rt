@@ -1,15 +1,12 @@
 // Which numbers of a stage could arise.
 ghost use mathlib.Core.Path.{_≡_};
 ghost use Rattle.host_model.specs.Stages.{textFits, sizeFits, numberFits, stageFits};
+use commands::LARGEST_PACKET;
+use commands::LARGEST_TOTAL;
 use host_model::Plan;
 use host_model::Stage;
 use host_model::Start;
 use rates::rate_fits;
-
-// The largest packet, and the largest number of packets.
-pub(crate) const LARGEST_PACKET: usize = 1024;
-
-pub(crate) const LARGEST_TOTAL: usize = 65535;
 
 // Whether a stage of a load of an image of this length could arise.
 pub fn stage_fits(plan: Plan, image: usize, stage: Stage) -> bool

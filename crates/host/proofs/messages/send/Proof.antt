@@ -26,11 +26,8 @@ enum-known-stage c = search needs
 rate-number-requires : tie.Need-rate-number-requires
 rate-number-requires c κs = search needs
 
-slice-aggregate-write : tie.Need-slice-aggregate-write
-slice-aggregate-write c = search needs
-
-write-requires : tie.Need-write-requires
-write-requires c κs = search needs
+write-rate-requires : tie.Need-write-rate-requires
+write-rate-requires c κs = search needs
 
 enum-told-2 : tie.Need-enum-told-2
 enum-told-2 c = search needs
@@ -74,10 +71,10 @@ same-length-2 c = search needs
 
 returns-2 : tie.Need-returns-2
 returns-2 c =
-    let a = c .before .before .before .before .before .before .before .before .before .before .before .args in
-    let told = c .before .before .before .before .before .before .before .stage .given in
-    c .before .before .write .ensures
-    ∙ ap (λ n. writeOf (rateFrame n) (a .out .now)) (c .before .before .before .before .before .rate-number .ensures)
+    let a = c .before .before .before .before .before .before .before .before .before .before .args in
+    let told = c .before .before .before .before .before .before .stage .given in
+    c .before .before .write-rate .ensures
+    ∙ ap (λ n. writeOf (rateFrame n) (a .out .now)) (c .before .before .before .before .rate-number .ensures)
     ∙ sent-frame (rateFrame (numberOfRate (told .0 .0))) (a .out .now) (omega arith)
     ∙ sym (ap (λ s. sentOf (messageOf (a .plan) (a .image .now) s) (a .out .now)) (told .1))
 
@@ -137,8 +134,7 @@ send-spec =
     send-text-requires
     enum-known-stage
     rate-number-requires
-    slice-aggregate-write
-    write-requires
+    write-rate-requires
     enum-told-2
     write-parameters-requires
     enum-known-stage-2
