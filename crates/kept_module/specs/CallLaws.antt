@@ -15,21 +15,22 @@ use Rattle.module_model.specs.declared.phases.Phase.{Phase}
 use Rattle.module_model.specs.declared.phases.Phase.the-variants.{Closed, Ready, Begun, Loading, Done}
 use Rattle.module.specs.declared.session.Session.{Session}
 use Rattle.module.specs.declared.session.Stepped.{Stepped}
-use Rattle.kept_module.specs.Kept.{recordBytes, wordsBy, wordsOf, fieldsIn, stands, sessionBy, sessionIn, answerNumber, opened, keptOpening}
+use Rattle.kept_module.specs.Record.{recordWords, recordBytes}
+use Rattle.kept_module.specs.Kept.{wordsBy, wordsOf, fieldsIn, stands, sessionBy, sessionIn, answerNumber, opened, keptOpening}
 
--- A record has nine words.
-pub nine-words : (s : Session) → length (wordsOf s) ≡ 9
+-- How many words a record has,
+pub nine-words : (s : Session) → length (wordsOf s) ≡ recordWords
 unfolding wordsOf
 nine-words s = go (s .phase)
   where
-    go : (phase : Phase) → length (wordsBy (s .flash) (s .idle) phase) ≡ 9
+    go : (phase : Phase) → length (wordsBy (s .flash) (s .idle) phase) ≡ recordWords
     go Closed = refl
     go Ready = refl
     go (Begun t) = refl
     go (Loading p number written) = refl
     go (Done p written) = refl
 
--- It has 36 bytes.
+-- and how many bytes.
 pub record-size : (s : Session) → length (spelledAll (wordsOf s)) ≡ recordBytes
 record-size s = length-spelled-all (wordsOf s) ∙ rw (nine-words s)
 

@@ -18,7 +18,8 @@ use Rattle.module_promises.specs.Promises.{opened, online}
 use Rattle.module_promises.specs.Arises.{reached-arises}
 use Rattle.module.specs.declared.session.Session.{Session}
 use Rattle.module.specs.declared.session.Stepped.{Stepped}
-use Rattle.kept_module.specs.Kept.{recordBytes, wordsOf, Kept, keptAs, keptStep, keptOf, keptOpening}
+use Rattle.kept_module.specs.Record.{recordBytes}
+use Rattle.kept_module.specs.Kept.{wordsOf, Kept, keptAs, keptStep, keptOf, keptOpening}
 use Rattle.kept_module.specs.Promises.{called, callsOf, bytesAfter, told, KeptRun}
 use Rattle.kept_module.specs.CallLaws.{nine-words}
 use Rattle.flat.specs.Found.{recorded-again}
