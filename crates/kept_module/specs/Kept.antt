@@ -29,7 +29,7 @@ use Rattle.kept_module.specs.Record.{closedPhase, readyPhase, begunPhase
 
 -- ---- the record
 
--- The nine words of a record, by name.
+-- The words of a record, by name.
 abbrev pub rowOf : ℕ → ℕ → ℕ → ℕ → ℕ → ℕ → ℕ → ℕ → List ℕ
 rowOf flash idle phase kind length size number written =
     lowHalf flash ∷ highHalf flash ∷ idle ∷ phase ∷ kind ∷ lowHalf length ∷ lowHalf size ∷ lowHalf number ∷ lowHalf written ∷ []

@@ -26,7 +26,7 @@ use Rattle.kept_module.specs.Record.{flashPlace, idlePlace, typePlace, l
 use Rattle.kept_module.specs.Record.{closedPhase, readyPhase, begunPhase, loadingPhase, donePhase}
 use Rattle.kept_module.specs.Kept.{rowOf, wordsBy, wordsOf, kindBy, kindIn, transferIn, piecesIn, phaseIn, fieldsIn, stands, sessionBy, sessionIn, keptOf}
 use Rattle.kept_module.specs.Promises.{KeptBack}
-use Rattle.kept_module.specs.CallLaws.{nine-words}
+use Rattle.kept_module.specs.CallLaws.{words-count}
 use Rattle.flat.specs.Found.{Words, ReadAt, recorded-read, recorded-stands, recorded-same, eight-back, two-back}
 
 -- ---- sessions that a record has room for
@@ -190,20 +190,20 @@ fields-back s st small r =
 
 -- ---- the promise
 
-pub nine-fit : (s : Session) (st : List ℕ) → recordBytes ≤ length st → length (wordsOf s) ≤ length st / 4
-nine-fit s st room = rw (nine-words s) (omega arith)
+pub words-fit : (s : Session) (st : List ℕ) → recordBytes ≤ length st → length (wordsOf s) ≤ length st / 4
+words-fit s st room = rw (words-count s) (omega arith)
 
 back : (s : Session) (st : List ℕ) → Small s → recordBytes ≤ length st → fieldsIn (recorded (wordsOf s) st) ≡ s
 unfolding wordsOf
 back s st small room =
     fields-back s (recorded (wordsOf s) st) small
-    (recorded-read (wordsOf s) st (nine-fit s st room) (words-small (s .flash) (s .idle) (s .phase) (small .idle-small)))
+    (recorded-read (wordsOf s) st (words-fit s st room) (words-small (s .flash) (s .idle) (s .phase) (small .idle-small)))
 
 pub kept-back : KeptBack
 unfolding stands sessionIn
 kept-back s st h f room =
     let b = back s st (arises-small s h f) room in
-    let there : stands (recorded (wordsOf s) st) ≡ true = rw b (recorded-stands (wordsOf s) st (nine-fit s st room)) in
+    let there : stands (recorded (wordsOf s) st) ≡ true = rw b (recorded-stands (wordsOf s) st (words-fit s st room)) in
     (there, rw there b)
 
 -- Bytes whose session stays as it was stay as they are, whether they are its record or not.

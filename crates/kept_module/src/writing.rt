@@ -10,7 +10,7 @@ use module::Phase;
 use module::Pieces;
 use module::Session;
 
-// The nine words of a session.
+// The words of a session.
 pub(crate) fn words_of(session: Session) -> [u32; record::RECORD_WORDS]
     ensures { λ r. ⌜ r ≡ wordsOf session ⌝ }
 {
