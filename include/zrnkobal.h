@@ -30,7 +30,8 @@ extern "C" {
 #define ZRN_UNKNOWN 106 /* a number that stands for no rate, or for no choice of 0 or 1; nothing is sent */
 
 /* ---- States. A record is a row of numbers of four bytes each, low byte first; a number of eight bytes takes two, the low half
- * first. A buffer may be longer than its record: the bytes behind it are left alone. */
+ * first. A buffer may be longer than its record: the bytes behind it are left alone. Every number keeps its place: whatever a later
+ * version adds to a record comes last and makes it longer, so take its size from the name below, never as a number. */
 
 /* A reader: count, opened (0 or 1), pending escape (0 or 1), then the store of 1,035 bytes. Any other count than 0 to 1,035 or any
  * other flag is taken as a fresh reader. */

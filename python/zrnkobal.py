@@ -7,7 +7,7 @@ import ctypes
 import os
 
 NOTHING, WRITTEN, FRAME, DROPPED, DONE, FOUND, PAST, UNKNOWN = 0, 100, 101, 102, 103, 104, 105, 106
-READER_BYTES, MODULE_BYTES, HOST_BYTES = 1047, 36, 56
+READER_BYTES, MODULE_BYTES, HOST_BYTES = 1047, 36, 56  # the records of the header
 MESSAGE = 2072  # more than any message or reply takes
 
 _here = os.path.dirname(os.path.dirname(os.path.abspath(__file__)))

@@ -18,9 +18,22 @@ pub const FOUND: u8 = 104;
 pub const PAST: u8 = 105;
 pub const UNKNOWN: u8 = 106;
 
-pub const READER_BYTES: usize = 1_047;
+// The records: where each part begins, how many numbers a row has, and the size. Whatever is added comes last.
+const READER_ROW: usize = 0;
 pub const READER_STORE: usize = 12;
+const READER_PAYLOAD: usize = READER_STORE + 4;
+pub const READER_BYTES: usize = 1_047;
+
+pub const MODULE_FLASH: usize = 0;
+pub const MODULE_IDLE: usize = 8;
+const MODULE_ROW: usize = 12;
+const MODULE_NUMBERS: usize = 6;
 pub const MODULE_BYTES: usize = 36;
+
+pub const HOST_IMAGE: usize = 0;
+const HOST_WISH: usize = 8;
+pub const HOST_ROW: usize = 16;
+const HOST_NUMBERS: usize = 10;
 pub const HOST_BYTES: usize = 56;
 
 // ---- Rows of numbers
@@ -104,7 +117,7 @@ fn flag(number: u32) -> Option<bool> {
 
 /// "Any other count than 0 to 1,035 or any other flag is taken as a fresh reader."
 fn decode_reader(record: &[u8; READER_BYTES]) -> Reader {
-    let [count, opened, pending] = row(record, 0);
+    let [count, opened, pending] = row(record, READER_ROW);
     let (Some(opened), Some(pending)) = (flag(opened), flag(pending)) else {
         return Reader::new();
     };
@@ -114,7 +127,7 @@ fn decode_reader(record: &[u8; READER_BYTES]) -> Reader {
 }
 
 fn encode_reader(reader: &Reader, record: &mut [u8; READER_BYTES]) {
-    put_row(record, 0, &[reader.count() as u32, u32::from(reader.opened()), u32::from(reader.pending())]);
+    put_row(record, READER_ROW, &[reader.count() as u32, u32::from(reader.opened()), u32::from(reader.pending())]);
     record[READER_STORE..].copy_from_slice(reader.store());
 }
 
@@ -145,7 +158,7 @@ pub fn reader_step(state: &mut [u8], byte: u8, command: &mut u8, count: &mut usi
 }
 
 pub fn reader_payload(state: &[u8], count: usize, place: &mut usize) -> usize {
-    *place = READER_STORE + 4;
+    *place = READER_PAYLOAD;
     count.min(state.len().saturating_sub(*place))
 }
 
@@ -269,10 +282,10 @@ pub fn ubf_write(
 // ---- The module
 
 /// Phase, type, length, size, number, written.
-fn module_numbers(phase: Phase) -> [u32; 6] {
+fn module_numbers(phase: Phase) -> [u32; MODULE_NUMBERS] {
     let kind = |parameters: Parameters| u32::from(parameters.kind.number());
     match phase {
-        Phase::Closed => [0; 6],
+        Phase::Closed => [0; MODULE_NUMBERS],
         Phase::Ready => [1, 0, 0, 0, 0, 0],
         Phase::Begun(p) => [2, kind(p), p.length, 0, 0, 0],
         Phase::Loading { parameters: p, size, number, written } => {
@@ -282,7 +295,7 @@ fn module_numbers(phase: Phase) -> [u32; 6] {
     }
 }
 
-fn module_phase(numbers: [u32; 6]) -> Option<Phase> {
+fn module_phase(numbers: [u32; MODULE_NUMBERS]) -> Option<Phase> {
     let [phase, kind, length, size, number, written] = numbers;
     let parameters = || Some(Parameters { kind: Kind::from_number(u16::try_from(kind).ok()?)?, length });
     match phase {
@@ -297,20 +310,20 @@ fn module_phase(numbers: [u32; 6]) -> Option<Phase> {
 
 /// The session of a record; bytes that are no record, or one that could not arise, are a closed session over the length in them.
 fn decode_module(state: &[u8]) -> module::Session {
-    let flash_length = get8(state, 0);
-    let numbers = row(state, 12);
+    let flash_length = get8(state, MODULE_FLASH);
+    let numbers = row(state, MODULE_ROW);
     let session = || {
         let phase = module_phase(numbers).filter(|&phase| module_numbers(phase) == numbers)?;
-        let session = module::Session { flash_length, idle: get4(state, 8), phase };
+        let session = module::Session { flash_length, idle: get4(state, MODULE_IDLE), phase };
         (state.len() >= MODULE_BYTES && session.could_arise()).then_some(session)
     };
     session().unwrap_or(module::Session::closed(flash_length))
 }
 
 fn encode_module(session: &module::Session, state: &mut [u8]) {
-    put8(state, 0, session.flash_length);
-    put4(state, 8, session.idle);
-    put_row(state, 12, &module_numbers(session.phase));
+    put8(state, MODULE_FLASH, session.flash_length);
+    put4(state, MODULE_IDLE, session.idle);
+    put_row(state, MODULE_ROW, &module_numbers(session.phase));
 }
 
 pub fn module_open(state: &mut [u8], flash: &[u8]) -> u8 {
@@ -359,7 +372,7 @@ pub fn module_wait(state: &mut [u8], ms: u32, flash: &mut [u8], reply: &mut [u8]
 // ---- The host
 
 /// Wish, then stage, type, first rate, rate, start, same, size, number, waited, repeats.
-fn host_numbers(course: &Course) -> (u64, [u32; 10]) {
+fn host_numbers(course: &Course) -> (u64, [u32; HOST_NUMBERS]) {
     let Course { wishes, stage, waited, repeats } = *course;
     let (stage, rate, size, number) = match stage {
         Stage::StartText => (1, 0, 0, 0),
@@ -396,7 +409,7 @@ fn rate_of(number: u32) -> Option<Rate> {
     Rate::from_number(u8::try_from(number).ok()?)
 }
 
-fn host_course(piece: u64, numbers: [u32; 10]) -> Option<Course> {
+fn host_course(piece: u64, numbers: [u32; HOST_NUMBERS]) -> Option<Course> {
     let [stage, kind, first, rate, start, same, size, number, waited, repeats] = numbers;
     let wishes = Wishes {
         kind: Kind::from_number(u16::try_from(kind).ok()?)?,
@@ -419,8 +432,8 @@ fn host_course(piece: u64, numbers: [u32; 10]) -> Option<Course> {
 
 /// The session of a record; bytes that are no record, or one that could not arise, are an ended session over the length in them.
 fn decode_host(state: &[u8]) -> host::Session {
-    let image_length = get8(state, 0);
-    let (piece, numbers) = (get8(state, 8), row(state, 16));
+    let image_length = get8(state, HOST_IMAGE);
+    let (piece, numbers) = (get8(state, HOST_WISH), row(state, HOST_ROW));
     let session = || {
         let course = host_course(piece, numbers).filter(|course| host_numbers(course) == (piece, numbers))?;
         let session = host::Session { image_length, course: Some(course) };
@@ -430,10 +443,10 @@ fn decode_host(state: &[u8]) -> host::Session {
 }
 
 fn encode_host(session: &host::Session, state: &mut [u8]) {
-    let (piece, numbers) = session.course.as_ref().map_or((0, [0; 10]), host_numbers);
-    put8(state, 0, session.image_length);
-    put8(state, 8, piece);
-    put_row(state, 16, &numbers);
+    let (piece, numbers) = session.course.as_ref().map_or((0, [0; HOST_NUMBERS]), host_numbers);
+    put8(state, HOST_IMAGE, session.image_length);
+    put8(state, HOST_WISH, piece);
+    put_row(state, HOST_ROW, &numbers);
 }
 
 #[allow(clippy::too_many_arguments)]

@@ -15,29 +15,30 @@ use Rattle.module_model.specs.declared.phases.Phase.{Phase}
 use Rattle.module_model.specs.declared.phases.Phase.the-variants.{Closed, Ready, Begun, Loading, Done}
 use Rattle.module.specs.declared.session.Session.{Session}
 use Rattle.module.specs.declared.session.Stepped.{Stepped}
-use Rattle.kept_module.specs.Kept.{recordBytes, wordsBy, wordsOf, fieldsIn, stands, sessionBy, sessionIn, answerNumber, opened, keptOpening}
+use Rattle.kept_module.specs.Record.{recordWords, recordBytes}
+use Rattle.kept_module.specs.Kept.{wordsBy, wordsOf, fieldsIn, stands, sessionBy, sessionIn, answerNumber, opened, keptOpening}
 
--- A record has nine words.
-pub nine-words : (s : Session) → length (wordsOf s) ≡ 9
+-- How many words a record has,
+pub words-count : (s : Session) → length (wordsOf s) ≡ recordWords
 unfolding wordsOf
-nine-words s = go (s .phase)
+words-count s = go (s .phase)
   where
-    go : (phase : Phase) → length (wordsBy (s .flash) (s .idle) phase) ≡ 9
+    go : (phase : Phase) → length (wordsBy (s .flash) (s .idle) phase) ≡ recordWords
     go Closed = refl
     go Ready = refl
     go (Begun t) = refl
     go (Loading p number written) = refl
     go (Done p written) = refl
 
--- It has 36 bytes.
+-- and how many bytes.
 pub record-size : (s : Session) → length (spelledAll (wordsOf s)) ≡ recordBytes
-record-size s = length-spelled-all (wordsOf s) ∙ rw (nine-words s)
+record-size s = length-spelled-all (wordsOf s) ∙ rw (words-count s)
 
 -- Compared with as many bytes, it tells whether these are the record.
 pub stands-by : (s : Session) (st bytes : List ℕ) → length bytes ≡ recordBytes
     → sameBytes (recorded (wordsOf s) bytes) (partOf st 0 recordBytes) ≡ standsFor (wordsOf s) st
 unfolding standsFor
-stands-by s st bytes e = rw (recorded-alone (wordsOf s) bytes (e ∙ rw (nine-words s)), record-size s)
+stands-by s st bytes e = rw (recorded-alone (wordsOf s) bytes (e ∙ rw (words-count s)), record-size s)
 
 -- The session read.
 pub session-by : (st : List ℕ) (fields s : Session) (genuine : Bool) → fields ≡ fieldsIn st → genuine ≡ standsFor (wordsOf fields) st

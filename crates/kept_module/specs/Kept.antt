@@ -24,29 +24,31 @@ use Rattle.module_model.specs.declared.events.Answer.{Answer}
 use Rattle.module_model.specs.declared.events.Answer.the-variants.{Nothing, Sent, Refused}
 use Rattle.flat.specs.Answers.{nothing, written}
 use Rattle.flat.specs.Words.{recorded, standsFor, lowHalf, highHalf}
+use Rattle.kept_module.specs.Record.{flashPlace, idlePlace, phasePlace, typePlace, lengthPlace, sizePlace, numberPlace, writtenPlace, recordBytes}
+use Rattle.kept_module.specs.Record.{closedPhase, readyPhase, begunPhase, loadingPhase, donePhase}
 
 -- ---- the record
 
--- The nine words of a record, by name.
+-- The words of a record, by name.
 abbrev pub rowOf : ℕ → ℕ → ℕ → ℕ → ℕ → ℕ → ℕ → ℕ → List ℕ
 rowOf flash idle phase kind length size number written =
     lowHalf flash ∷ highHalf flash ∷ idle ∷ phase ∷ kind ∷ lowHalf length ∷ lowHalf size ∷ lowHalf number ∷ lowHalf written ∷ []
 
--- The words of a session by its phase, 0 closed to 4 done; what a phase does not have is 0.
+-- Those of a session whose pieces are set.
+abbrev pub piecesRow : ℕ → ℕ → ℕ → Pieces → ℕ → ℕ → List ℕ
+piecesRow flash idle phase p number written =
+    rowOf flash idle phase (numberOf (p .transfer .kind)) (p .transfer .length) (p .size) number written
+
+-- The words of a session by its phase; what a phase does not have is 0.
 abbrev pub wordsBy : ℕ → ℕ → Phase → List ℕ
-wordsBy flash idle Closed = rowOf flash idle 0 0 0 0 0 0
-wordsBy flash idle Ready = rowOf flash idle 1 0 0 0 0 0
-wordsBy flash idle (Begun t) = rowOf flash idle 2 (numberOf (t .kind)) (t .length) 0 0 0
-wordsBy flash idle (Loading p number written) =
-    rowOf flash idle 3 (numberOf (p .transfer .kind)) (p .transfer .length) (p .size) number written
-wordsBy flash idle (Done p written) = rowOf flash idle 4 (numberOf (p .transfer .kind)) (p .transfer .length) (p .size) 0 written
+wordsBy flash idle Closed = rowOf flash idle closedPhase 0 0 0 0 0
+wordsBy flash idle Ready = rowOf flash idle readyPhase 0 0 0 0 0
+wordsBy flash idle (Begun t) = rowOf flash idle begunPhase (numberOf (t .kind)) (t .length) 0 0 0
+wordsBy flash idle (Loading p number written) = piecesRow flash idle loadingPhase p number written
+wordsBy flash idle (Done p written) = piecesRow flash idle donePhase p 0 written
 
 unfoldable pub wordsOf : Session → List ℕ
 wordsOf s = wordsBy (s .flash) (s .idle) (s .phase)
-
--- The bytes of a record.
-abbrev pub recordBytes : ℕ
-recordBytes = 36
 
 -- ---- reading it
 
@@ -56,25 +58,25 @@ kindBy (Is k) = k
 kindBy Unknown = Navigation
 
 abbrev pub kindIn : List ℕ → Kind
-kindIn st = kindBy (kindOf (numberAt 2 st 16))
+kindIn st = kindBy (kindOf (numberAt 2 st typePlace))
 
 abbrev pub transferIn : List ℕ → Transfer
-transferIn st = record { kind = kindIn st; length = numberAt 4 st 20 }
+transferIn st = record { kind = kindIn st; length = numberAt 4 st lengthPlace }
 
 abbrev pub piecesIn : List ℕ → Pieces
-piecesIn st = record { transfer = transferIn st; size = numberAt 4 st 24 }
+piecesIn st = record { transfer = transferIn st; size = numberAt 4 st sizePlace }
 
 -- The phase whose numbers stand in the bytes.
 unfoldable pub phaseIn : List ℕ → Phase
 phaseIn st =
-    cond (eqb (numberAt 4 st 12) 1) Ready
-    (cond (eqb (numberAt 4 st 12) 2) (Begun (transferIn st))
-    (cond (eqb (numberAt 4 st 12) 3) (Loading (piecesIn st) (numberAt 4 st 28) (numberAt 4 st 32))
-    (cond (eqb (numberAt 4 st 12) 4) (Done (piecesIn st) (numberAt 4 st 32)) Closed)))
+    cond (eqb (numberAt 4 st phasePlace) readyPhase) Ready
+    (cond (eqb (numberAt 4 st phasePlace) begunPhase) (Begun (transferIn st))
+    (cond (eqb (numberAt 4 st phasePlace) loadingPhase) (Loading (piecesIn st) (numberAt 4 st numberPlace) (numberAt 4 st writtenPlace))
+    (cond (eqb (numberAt 4 st phasePlace) donePhase) (Done (piecesIn st) (numberAt 4 st writtenPlace)) Closed)))
 
 -- The session whose numbers stand in the bytes.
 abbrev pub fieldsIn : List ℕ → Session
-fieldsIn st = session (numberAt 8 st 0) (numberAt 4 st 8) (phaseIn st)
+fieldsIn st = session (numberAt 8 st flashPlace) (numberAt 4 st idlePlace) (phaseIn st)
 
 -- The bytes are the record of a session.
 unfoldable pub stands : List ℕ → Bool

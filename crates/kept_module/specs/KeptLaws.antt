@@ -1,5 +1,5 @@
 -- A session that can arise is read again from its record.
-use Prim.Native.Nat.{ℕ, _/_, _≤_, _<_}
+use Prim.Native.Nat.{ℕ, _+_, _/_, _≤_, _<_}
 use mathlib.Core.Bool.{Bool, true, false, cond, false≢true}
 use mathlib.Core.List.{List}
 use mathlib.Core.Path.{_≡_, refl, ap, _∙_}
@@ -22,9 +22,11 @@ use Rattle.module_model.specs.declared.phases.Pieces.{Pieces}
 use Rattle.module_model.specs.declared.phases.Phase.{Phase}
 use Rattle.module_model.specs.declared.phases.Phase.the-variants.{Closed, Ready, Begun, Loading, Done}
 use Rattle.module.specs.declared.session.Session.{Session}
-use Rattle.kept_module.specs.Kept.{recordBytes, rowOf, wordsBy, wordsOf, kindBy, kindIn, transferIn, piecesIn, phaseIn, fieldsIn, stands, sessionBy, sessionIn, keptOf}
+use Rattle.kept_module.specs.Record.{flashPlace, idlePlace, typePlace, lengthPlace, sizePlace, recordBytes}
+use Rattle.kept_module.specs.Record.{closedPhase, readyPhase, begunPhase, loadingPhase, donePhase}
+use Rattle.kept_module.specs.Kept.{rowOf, wordsBy, wordsOf, kindBy, kindIn, transferIn, piecesIn, phaseIn, fieldsIn, stands, sessionBy, sessionIn, keptOf}
 use Rattle.kept_module.specs.Promises.{KeptBack}
-use Rattle.kept_module.specs.CallLaws.{nine-words}
+use Rattle.kept_module.specs.CallLaws.{words-count}
 use Rattle.flat.specs.Found.{Words, ReadAt, recorded-read, recorded-stands, recorded-same, eight-back, two-back}
 
 -- ---- sessions that a record has room for
@@ -106,39 +108,39 @@ arises-small s h f =
 -- ---- the words of a session
 
 -- Each of them fits a word.
-row-small : (flash idle phase kind length size number written : ℕ) → idle < 4294967296 → phase < 5 → kind < 65536
+row-small : (flash idle phase kind length size number written : ℕ) → idle < 4294967296 → phase ≤ donePhase → kind < 65536
     → Words (rowOf flash idle phase kind length size number written)
 row-small flash idle phase kind length size number written i p k =
     (omega arith, (omega arith, (i, (omega arith, (omega arith, (omega arith, (omega arith, (omega arith, (omega arith, tt)))))))))
 
 words-small : (flash idle : ℕ) (phase : Phase) → idle < 4294967296 → Words (wordsBy flash idle phase)
-words-small flash idle Closed i = row-small flash idle 0 0 0 0 0 0 i (omega arith) (omega arith)
-words-small flash idle Ready i = row-small flash idle 1 0 0 0 0 0 i (omega arith) (omega arith)
+words-small flash idle Closed i = row-small flash idle closedPhase 0 0 0 0 0 i (omega arith) (omega arith)
+words-small flash idle Ready i = row-small flash idle readyPhase 0 0 0 0 0 i (omega arith) (omega arith)
 words-small flash idle (Begun t) i =
-    row-small flash idle 2 (numberOf (t .kind)) (t .length) 0 0 0 i (omega arith) (kind-spelled (t .kind) .0)
+    row-small flash idle begunPhase (numberOf (t .kind)) (t .length) 0 0 0 i (omega arith) (kind-spelled (t .kind) .0)
 words-small flash idle (Loading p number written) i =
-    row-small flash idle 3 (numberOf (p .transfer .kind)) (p .transfer .length) (p .size) number written i (omega arith)
+    row-small flash idle loadingPhase (numberOf (p .transfer .kind)) (p .transfer .length) (p .size) number written i (omega arith)
     (kind-spelled (p .transfer .kind) .0)
 words-small flash idle (Done p written) i =
-    row-small flash idle 4 (numberOf (p .transfer .kind)) (p .transfer .length) (p .size) 0 written i (omega arith)
+    row-small flash idle donePhase (numberOf (p .transfer .kind)) (p .transfer .length) (p .size) 0 written i (omega arith)
     (kind-spelled (p .transfer .kind) .0)
 
 -- ---- read again
 
 -- A type and a small number.
-kind-back : (s : List ℕ) (k : Kind) → numberAt 4 s 16 ≡ numberOf k → kindIn s ≡ k
-kind-back s k e = ap kindBy (ap kindOf (two-back s 16 (numberOf k) (kind-spelled k .0) e) ∙ kind-of-number k)
+kind-back : (s : List ℕ) (k : Kind) → numberAt 4 s typePlace ≡ numberOf k → kindIn s ≡ k
+kind-back s k e = ap kindBy (ap kindOf (two-back s typePlace (numberOf k) (kind-spelled k .0) e) ∙ kind-of-number k)
 
 low-back : (w x : ℕ) → x < 4294967296 → w ≡ lowHalf x → w ≡ x
 low-back w x small e = omega arith
 
-transfer-back : (s : List ℕ) (t : Transfer) → t .length < 4294967296 → numberAt 4 s 16 ≡ numberOf (t .kind)
-    → numberAt 4 s 20 ≡ lowHalf (t .length) → transferIn s ≡ t
+transfer-back : (s : List ℕ) (t : Transfer) → t .length < 4294967296 → numberAt 4 s typePlace ≡ numberOf (t .kind)
+    → numberAt 4 s lengthPlace ≡ lowHalf (t .length) → transferIn s ≡ t
 transfer-back s t small k n = rw (kind-back s (t .kind) k, low-back _ (t .length) small n)
 
 pieces-back : (s : List ℕ) (p : Pieces) → p .transfer .length < 4294967296 → p .size < 4294967296
-    → numberAt 4 s 16 ≡ numberOf (p .transfer .kind) → numberAt 4 s 20 ≡ lowHalf (p .transfer .length)
-    → numberAt 4 s 24 ≡ lowHalf (p .size) → piecesIn s ≡ p
+    → numberAt 4 s typePlace ≡ numberOf (p .transfer .kind) → numberAt 4 s lengthPlace ≡ lowHalf (p .transfer .length)
+    → numberAt 4 s sizePlace ≡ lowHalf (p .size) → piecesIn s ≡ p
 pieces-back s p small fits k n m = rw (transfer-back s (p .transfer) small k n, low-back _ (p .size) fits m)
 
 -- The phase.
@@ -166,7 +168,7 @@ phase-back s flash idle (Done p written) small r =
 
 -- The words of any phase begin with the flash length and the idle sum.
 abbrev Front : List ℕ → ℕ → ℕ → Type 0
-Front s flash idle = (numberAt 4 s 0 ≡ lowHalf flash) × (numberAt 4 s 4 ≡ highHalf flash) × (numberAt 4 s 8 ≡ idle)
+Front s flash idle = (numberAt 4 s flashPlace ≡ lowHalf flash) × (numberAt 4 s (flashPlace + 4) ≡ highHalf flash) × (numberAt 4 s idlePlace ≡ idle)
 
 front-back : (s : List ℕ) (flash idle : ℕ) (phase : Phase) → ReadAt s 0 (wordsBy flash idle phase) → Front s flash idle
 front-back s flash idle Closed r = (r .0, r .1 .0, r .1 .1 .0)
@@ -181,27 +183,27 @@ unfolding wordsOf
 fields-back s st small r =
     let f = front-back st (s .flash) (s .idle) (s .phase) r in
     rw (
-      eight-back st 0 (s .flash) (small .flash-small) (f .0) (f .1),
+      eight-back st flashPlace (s .flash) (small .flash-small) (f .0) (f .1),
       f .2,
       phase-back st (s .flash) (s .idle) (s .phase) (small .phase-small) r,
     )
 
 -- ---- the promise
 
-pub nine-fit : (s : Session) (st : List ℕ) → recordBytes ≤ length st → length (wordsOf s) ≤ length st / 4
-nine-fit s st room = rw (nine-words s) (omega arith)
+pub words-fit : (s : Session) (st : List ℕ) → recordBytes ≤ length st → length (wordsOf s) ≤ length st / 4
+words-fit s st room = rw (words-count s) (omega arith)
 
 back : (s : Session) (st : List ℕ) → Small s → recordBytes ≤ length st → fieldsIn (recorded (wordsOf s) st) ≡ s
 unfolding wordsOf
 back s st small room =
     fields-back s (recorded (wordsOf s) st) small
-    (recorded-read (wordsOf s) st (nine-fit s st room) (words-small (s .flash) (s .idle) (s .phase) (small .idle-small)))
+    (recorded-read (wordsOf s) st (words-fit s st room) (words-small (s .flash) (s .idle) (s .phase) (small .idle-small)))
 
 pub kept-back : KeptBack
 unfolding stands sessionIn
 kept-back s st h f room =
     let b = back s st (arises-small s h f) room in
-    let there : stands (recorded (wordsOf s) st) ≡ true = rw b (recorded-stands (wordsOf s) st (nine-fit s st room)) in
+    let there : stands (recorded (wordsOf s) st) ≡ true = rw b (recorded-stands (wordsOf s) st (words-fit s st room)) in
     (there, rw there b)
 
 -- Bytes whose session stays as it was stay as they are, whether they are its record or not.

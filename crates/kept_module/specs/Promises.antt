@@ -10,7 +10,8 @@ use Rattle.module.specs.Session.{openingOf, arises}
 use Rattle.module_promises.specs.Runs.{Given, Exchange, afterOf, runOf, AllBytes}
 use Rattle.module_promises.specs.Promises.{opened}
 use Rattle.module.specs.declared.session.Session.{Session}
-use Rattle.kept_module.specs.Kept.{recordBytes, wordsOf, stands, sessionIn, answerNumber, Kept, keptAs, keptStep, keptOpening}
+use Rattle.kept_module.specs.Record.{recordBytes}
+use Rattle.kept_module.specs.Kept.{wordsOf, stands, sessionIn, answerNumber, Kept, keptAs, keptStep, keptOpening}
 
 -- KeptLaws.antt. The record of any session that can arise, over a flash whose length fits eight bytes, stands in any buffer with room
 -- for it and is read there as that session.

@@ -18,11 +18,12 @@ use Rattle.module_promises.specs.Promises.{opened, online}
 use Rattle.module_promises.specs.Arises.{reached-arises}
 use Rattle.module.specs.declared.session.Session.{Session}
 use Rattle.module.specs.declared.session.Stepped.{Stepped}
-use Rattle.kept_module.specs.Kept.{recordBytes, wordsOf, Kept, keptAs, keptStep, keptOf, keptOpening}
+use Rattle.kept_module.specs.Record.{recordBytes}
+use Rattle.kept_module.specs.Kept.{wordsOf, Kept, keptAs, keptStep, keptOf, keptOpening}
 use Rattle.kept_module.specs.Promises.{called, callsOf, bytesAfter, told, KeptRun}
-use Rattle.kept_module.specs.CallLaws.{nine-words}
+use Rattle.kept_module.specs.CallLaws.{words-count}
 use Rattle.flat.specs.Found.{recorded-again}
-use Rattle.kept_module.specs.KeptLaws.{nine-fit, kept-back}
+use Rattle.kept_module.specs.KeptLaws.{words-fit, kept-back}
 
 -- ---- the flash length stays
 
@@ -51,9 +52,9 @@ unfolding keptStep keptOf
 step-kept s st g h f room =
     let b = kept-back s st h f room in
     let l = exchange s g .left in
-    let same : length (wordsOf s) ≡ length (wordsOf (l .session)) = nine-words s ∙ sym (nine-words (l .session)) in
+    let same : length (wordsOf s) ≡ length (wordsOf (l .session)) = words-count s ∙ sym (words-count (l .session)) in
     rw (b .1, b .0)
-    (ap (λ (r : List ℕ). keptAs r l) (recorded-again (wordsOf s) (wordsOf (l .session)) st same (nine-fit s st room)))
+    (ap (λ (r : List ℕ). keptAs r l) (recorded-again (wordsOf s) (wordsOf (l .session)) st same (words-fit s st room)))
 
 -- From a session whose every run leads to one that arises.
 runs-kept : (st : List ℕ) (s : Session) (gs : List Given) → ((hs : List Given) → AllBytes hs → arises (afterOf s hs) ≡ true)

@@ -7,6 +7,7 @@ ghost use Rattle.module_model.specs.Answers.{countIn};
 ghost use Rattle.kept_module.specs.Kept.{sessionIn, answerNumber, opened, keptOpening, kept, keptStep};
 use crate::reading::fields_in;
 use crate::reading::session_of;
+use crate::record;
 use crate::writing::keep;
 use crate::writing::stands;
 use crate::writing::words_of;
@@ -18,7 +19,7 @@ use module::Session;
 pub fn open(state: &mut [u8], flash: &[u8]) -> u8
     ensures { λ r. ⌜ opened r (now (state .exit)) ≡ keptOpening (now (state .entry)) (now (flash .entry)) ⌝ }
 {
-    if state.len() < 36 {
+    if state.len() < record::RECORD_BYTES {
         return refusals::NO_ROOM;
     }
     let first = Session::opening(flash);

@@ -1,6 +1,7 @@
-// The module's session for callers that keep it as bytes: a record of nine words of four bytes at the front of a buffer.
+// The module's session for callers that keep it as bytes: a record of words of four bytes (record.rt) at the front of a buffer.
 mod calls;
 mod reading;
+mod record;
 mod writing;
 
 pub use calls::frame;

@@ -2,6 +2,7 @@
 ghost use mathlib.Core.Path.{_≡_};
 ghost use Rattle.octets.specs.Octets.{numberAt};
 ghost use Rattle.kept_module.specs.Kept.{kindIn, transferIn, piecesIn, phaseIn, fieldsIn, sessionBy};
+use crate::record;
 use kinds::Kind;
 use kinds::Known;
 use module::Phase;
@@ -14,8 +15,8 @@ pub(crate) fn fields_in(state: &[u8]) -> Session
     ensures { λ r. ⌜ r ≡ fieldsIn (now (state .entry)) ⌝ }
 {
     Session {
-        flash: flat::eight_at(state, 0),
-        idle: octets::four_at(state, 8),
+        flash: flat::eight_at(state, record::FLASH_PLACE),
+        idle: octets::four_at(state, record::IDLE_PLACE),
         phase: phase_in(state),
     }
 }
@@ -23,17 +24,17 @@ pub(crate) fn fields_in(state: &[u8]) -> Session
 fn phase_in(state: &[u8]) -> Phase
     ensures { λ r. ⌜ r ≡ phaseIn (now (state .entry)) ⌝ }
 {
-    match octets::four_at(state, 12) {
-        1 => Phase::Ready,
-        2 => Phase::Begun(transfer_in(state)),
-        3 => Phase::Loading {
+    match octets::four_at(state, record::PHASE_PLACE) {
+        record::READY_PHASE => Phase::Ready,
+        record::BEGUN_PHASE => Phase::Begun(transfer_in(state)),
+        record::LOADING_PHASE => Phase::Loading {
             pieces: pieces_in(state),
-            number: word_at(state, 28),
-            written: word_at(state, 32),
+            number: word_at(state, record::NUMBER_PLACE),
+            written: word_at(state, record::WRITTEN_PLACE),
         },
-        4 => Phase::Done {
+        record::DONE_PHASE => Phase::Done {
             pieces: pieces_in(state),
-            written: word_at(state, 32),
+            written: word_at(state, record::WRITTEN_PLACE),
         },
         _ => Phase::Closed,
     }
@@ -44,7 +45,7 @@ fn pieces_in(state: &[u8]) -> Pieces
 {
     Pieces {
         transfer: transfer_in(state),
-        size: word_at(state, 24),
+        size: word_at(state, record::SIZE_PLACE),
     }
 }
 
@@ -53,7 +54,7 @@ fn transfer_in(state: &[u8]) -> Transfer
 {
     Transfer {
         kind: kind_in(state),
-        length: word_at(state, 20),
+        length: word_at(state, record::LENGTH_PLACE),
     }
 }
 
@@ -61,7 +62,7 @@ fn transfer_in(state: &[u8]) -> Transfer
 fn kind_in(state: &[u8]) -> Kind
     ensures { λ r. ⌜ r ≡ kindIn (now (state .entry)) ⌝ }
 {
-    let known = kinds::kind_of(octets::two_at(state, 16));
+    let known = kinds::kind_of(octets::two_at(state, record::TYPE_PLACE));
     match known {
         Known::Is(kind) => kind,
         Known::Unknown => Kind::Navigation,

@@ -3,58 +3,70 @@ ghost use mathlib.Core.Path.{_≡_};
 ghost use mathlib.Core.Bool.{cond};
 ghost use Rattle.kinds.specs.Kinds.{numberOf};
 ghost use Rattle.flat.specs.Words.{recorded, standsFor};
-ghost use Rattle.kept_module.specs.Kept.{rowOf, wordsOf};
+ghost use Rattle.kept_module.specs.Kept.{rowOf, piecesRow, wordsOf};
+use crate::record;
 use kinds::Kind;
 use module::Phase;
+use module::Pieces;
 use module::Session;
 
-// The nine words of a session.
-pub(crate) fn words_of(session: Session) -> [u32; 9]
+// The words of a session.
+pub(crate) fn words_of(session: Session) -> [u32; record::RECORD_WORDS]
     ensures { λ r. ⌜ r ≡ wordsOf session ⌝ }
 {
     let flash = session.flash;
     let idle = session.idle;
     let phase = session.phase;
     match phase {
-        Phase::Closed => row(flash, idle, 0, 0, 0, 0, 0, 0),
-        Phase::Ready => row(flash, idle, 1, 0, 0, 0, 0, 0),
+        Phase::Closed => row(flash, idle, record::CLOSED_PHASE, 0, 0, 0, 0, 0),
+        Phase::Ready => row(flash, idle, record::READY_PHASE, 0, 0, 0, 0, 0),
         Phase::Begun(transfer) => {
             let kind = transfer.kind;
-            row(flash, idle, 2, type_of(kind), transfer.length, 0, 0, 0)
+            row(
+                flash,
+                idle,
+                record::BEGUN_PHASE,
+                type_of(kind),
+                transfer.length,
+                0,
+                0,
+                0,
+            )
         }
         Phase::Loading {
             pieces,
             number,
             written,
-        } => {
-            let transfer = pieces.transfer;
-            let kind = transfer.kind;
-            row(
-                flash,
-                idle,
-                3,
-                type_of(kind),
-                transfer.length,
-                pieces.size,
-                number,
-                written,
-            )
-        }
+        } => pieces_row(flash, idle, record::LOADING_PHASE, pieces, number, written),
         Phase::Done { pieces, written } => {
-            let transfer = pieces.transfer;
-            let kind = transfer.kind;
-            row(
-                flash,
-                idle,
-                4,
-                type_of(kind),
-                transfer.length,
-                pieces.size,
-                0,
-                written,
-            )
+            pieces_row(flash, idle, record::DONE_PHASE, pieces, 0, written)
         }
     }
+}
+
+// The words of a session whose pieces are set.
+fn pieces_row(
+    flash: usize,
+    idle: u32,
+    phase: u32,
+    pieces: Pieces,
+    number: usize,
+    written: usize,
+) -> [u32; record::RECORD_WORDS]
+    ensures { λ r. ⌜ r ≡ piecesRow flash idle phase pieces number written ⌝ }
+{
+    let transfer = pieces.transfer;
+    let kind = transfer.kind;
+    row(
+        flash,
+        idle,
+        phase,
+        type_of(kind),
+        transfer.length,
+        pieces.size,
+        number,
+        written,
+    )
 }
 
 fn row(
@@ -66,7 +78,7 @@ fn row(
     size: usize,
     number: usize,
     written: usize,
-) -> [u32; 9]
+) -> [u32; record::RECORD_WORDS]
     ensures { λ r. ⌜ r ≡ rowOf flash idle phase kind length size number written ⌝ }
 {
     [
@@ -93,9 +105,9 @@ fn type_of(kind: Kind) -> u32
 pub(crate) fn stands(session: Session, state: &[u8]) -> bool
     ensures { λ r. ⌜ r ≡ standsFor (wordsOf session) (now (state .entry)) ⌝ }
 {
-    let mut bytes = [0u8; 36];
+    let mut bytes = [0u8; record::RECORD_BYTES];
     flat::store(&words_of(session), &mut bytes);
-    octets::same(&bytes, octets::part(state, 0, 36))
+    octets::same(&bytes, octets::part(state, 0, record::RECORD_BYTES))
 }
 
 // Writes a session over the record in the bytes, if there was one.

@@ -1,10 +1,10 @@
 //! The host's session: openings, and long runs of events against answers that are mostly sensible.
 
-use super::module::number_at;
+use super::module::{long_at, number_at};
 use super::rng::Rng;
 use super::tally::{first_difference, hex, Tally};
 use crate::calls::{Calls, SIDES};
-use second::flat::HOST_BYTES;
+use second::flat::{HOST_BYTES, HOST_IMAGE, HOST_ROW};
 
 pub const OUT: usize = 2_090;
 const STATE: usize = HOST_BYTES + 4;
@@ -23,9 +23,9 @@ pub struct View {
 
 impl View {
     pub fn of(state: &[u8]) -> View {
-        let number = |n: usize| number_at(state, 16 + 4 * n);
+        let number = |n: usize| number_at(state, HOST_ROW + 4 * n);
         View {
-            image_length: u64::from(number_at(state, 0)) | u64::from(number_at(state, 4)) << 32,
+            image_length: long_at(state, HOST_IMAGE),
             stage: number(0),
             rate: number(3),
             size: number(6),
@@ -200,13 +200,14 @@ pub fn openings(tally: &mut Tally, rng: &mut Rng) {
     let pool = rng.bytes(262_152);
     let lengths = [0, 1, 3, 4, 5, 8, 100, 1_024, 262_136, 262_139, 262_140, 262_141, 262_143, 262_144, 262_148];
     let rooms = [0, 7, 8, 9, 11, 12, 64];
+    let states = [0, 8, HOST_BYTES - 1, HOST_BYTES, HOST_BYTES, HOST_BYTES, HOST_BYTES + 1, STATE];
     for kind in [0, 1, 2, 3, 4, 0x0101, u16::MAX] {
         for length in lengths {
             for first in [0, 1, 2, 3, 4, 5, 6, 255] {
                 for start in [0, 1, 2, 255] {
                     for same in [0, 1, 2] {
                         for room in rooms {
-                            let state = rng.pick(&[0, 8, 55, 56, 56, 56, 57, 60]);
+                            let state = rng.pick(&states);
                             let wish = rng.pick(&[0, 1, 3, 4, 1_024, 1_025, usize::MAX]);
                             let opening = Opening { kind, first, wish, start, same };
                             Hosts::new(&vec![0xEE; state]).open(tally, opening, &pool[..length], room);

@@ -3,7 +3,7 @@
 use super::rng::Rng;
 use super::tally::{first_difference, hex, Tally};
 use crate::calls::{Calls, SIDES};
-use second::flat::MODULE_BYTES;
+use second::flat::{MODULE_BYTES, MODULE_FLASH, MODULE_IDLE};
 use std::ops::Range;
 
 /// Flashes up to this length are compared whole at each step.
@@ -27,11 +27,16 @@ pub fn number_at(state: &[u8], at: usize) -> u32 {
     (0..4).rev().fold(0, |sum, n| sum << 8 | u32::from(state.get(at + n).copied().unwrap_or(0)))
 }
 
+/// A number of eight bytes.
+pub fn long_at(state: &[u8], at: usize) -> u64 {
+    u64::from(number_at(state, at)) | u64::from(number_at(state, at + 4)) << 32
+}
+
 impl View {
     pub fn of(state: &[u8]) -> View {
-        let number = |n: usize| number_at(state, 8 + 4 * n);
+        let number = |n: usize| number_at(state, MODULE_IDLE + 4 * n);
         View {
-            flash_length: u64::from(number_at(state, 0)) | u64::from(number_at(state, 4)) << 32,
+            flash_length: long_at(state, MODULE_FLASH),
             idle: number(0),
             phase: number(1),
             kind: number(2),

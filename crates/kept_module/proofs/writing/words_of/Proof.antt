@@ -29,20 +29,14 @@ row-requires-3 c κs = search needs
 enum-known-phase-2 : tie.Need-enum-known-phase-2
 enum-known-phase-2 c = search needs
 
-type-of-requires-2 : tie.Need-type-of-requires-2
-type-of-requires-2 c κs = search needs
-
-row-requires-4 : tie.Need-row-requires-4
-row-requires-4 c κs = search needs
+pieces-row-requires : tie.Need-pieces-row-requires
+pieces-row-requires c κs = search needs
 
 enum-known-phase-3 : tie.Need-enum-known-phase-3
 enum-known-phase-3 c = search needs
 
-type-of-requires-3 : tie.Need-type-of-requires-3
-type-of-requires-3 c κs = search needs
-
-row-requires-5 : tie.Need-row-requires-5
-row-requires-5 c κs = search needs
+pieces-row-requires-2 : tie.Need-pieces-row-requires-2
+pieces-row-requires-2 c κs = search needs
 
 returns : tie.Need-returns
 unfolding wordsOf
@@ -58,11 +52,11 @@ returns-3 c = c .row3 .ensures ∙ rw (c .before .type-of .ensures, c .before .b
 
 returns-4 : tie.Need-returns-4
 unfolding wordsOf
-returns-4 c = c .row4 .ensures ∙ rw (c .before .type-of2 .ensures, c .before .before .before .before .phase2 .given .1)
+returns-4 c = c .pieces-row .ensures ∙ rw (c .before .before .phase2 .given .1)
 
 returns-5 : tie.Need-returns-5
 unfolding wordsOf
-returns-5 c = c .row5 .ensures ∙ rw (c .before .type-of3 .ensures, c .before .before .before .before .phase3 .given .1)
+returns-5 c = c .pieces-row2 .ensures ∙ rw (c .before .before .phase3 .given .1)
 
 pub words-of-spec : {M : Type 1} → statement M
 words-of-spec =
@@ -76,11 +70,9 @@ words-of-spec =
     type-of-requires
     row-requires-3
     enum-known-phase-2
-    type-of-requires-2
-    row-requires-4
+    pieces-row-requires
     enum-known-phase-3
-    type-of-requires-3
-    row-requires-5
+    pieces-row-requires-2
     returns
     returns-2
     returns-3
