@@ -34,6 +34,7 @@ use Rattle.host_model.specs.declared.waits.Wait.{Wait}
 use Rattle.host_model.specs.declared.waits.Phase.{Phase}
 use Rattle.host_model.specs.declared.waits.Phase.the-variants.{Ended, Waiting}
 use Rattle.host.specs.declared.session.Session.{Session}
+use Rattle.kept_host.specs.Record.{imagePlace, wishPlace, typePlace, waitedPlace, repeatsPlace, recordBytes}
 use Rattle.kept_host.specs.Kept.{startNumber, sameNumber, stageWords, waitWords, endedWords, wordsOf}
 use Rattle.kept_host.specs.Kept.{rateIn, startIn, sameIn, stageOf, stageIn, planIn, phaseIn, fieldsIn, stands, sessionIn}
 use Rattle.kept_host.specs.KeptLaws.{words-count}
@@ -89,21 +90,21 @@ abbrev written : ℕ → Staged → Wait → List ℕ → List ℕ
 written image s w st = over (spelledAll (waitWords image s w)) st
 
 module _ (image : ℕ) (s : Staged) (w : Wait) (st : List ℕ) where
-  image-at : numberAt 8 (written image s w st) 0 ≡ lowHalf image + 4294967296 * highHalf image
+  image-at : numberAt 8 (written image s w st) imagePlace ≡ lowHalf image + 4294967296 * highHalf image
   unfolding numberAt spelledAll spelled over
   image-at =
-      number-eight (written image s w st) 0
+      number-eight (written image s w st) imagePlace
       ∙ ap₂ (λ (x y : ℕ). x + 4294967296 * y)
       (little-spelled 4 (lowHalf image) (omega arith)) (little-spelled 4 (highHalf image) (omega arith))
 
-  wish-at : numberAt 8 (written image s w st) 8 ≡ lowHalf (w .plan .wish) + 4294967296 * highHalf (w .plan .wish)
+  wish-at : numberAt 8 (written image s w st) wishPlace ≡ lowHalf (w .plan .wish) + 4294967296 * highHalf (w .plan .wish)
   unfolding numberAt spelledAll spelled over
   wish-at =
-      number-eight (written image s w st) 8
+      number-eight (written image s w st) wishPlace
       ∙ ap₂ (λ (x y : ℕ). x + 4294967296 * y)
       (little-spelled 4 (lowHalf (w .plan .wish)) (omega arith)) (little-spelled 4 (highHalf (w .plan .wish)) (omega arith))
 
-  kind-at : kindOf (numberAt 2 (written image s w st) 20) ≡ Is (w .plan .kind)
+  kind-at : kindOf (numberAt 2 (written image s w st) typePlace) ≡ Is (w .plan .kind)
   unfolding numberAt spelledAll spelled over
   kind-at =
       ap kindOf (little-spelled 2 (numberOf (w .plan .kind)) (kind-spelled (w .plan .kind) .0)) ∙ kind-of-number (w .plan .kind)
@@ -126,7 +127,7 @@ module _ (image : ℕ) (s : Staged) (w : Wait) (st : List ℕ) where
       ap₂ (stageOf (s .stage % 256) (rateIn (s .rate % 256))) (little-spelled 4 (s .size) h) (little-spelled 4 (s .number) k)
 
   times-at : w .waited < 2 ^ 32 → w .repeats < 2 ^ 32
-      → (numberAt 4 (written image s w st) 48 ≡ w .waited) × (numberAt 4 (written image s w st) 52 ≡ w .repeats)
+      → (numberAt 4 (written image s w st) waitedPlace ≡ w .waited) × (numberAt 4 (written image s w st) repeatsPlace ≡ w .repeats)
   unfolding numberAt spelledAll spelled over
   times-at h k = (little-spelled 4 (w .waited) h, little-spelled 4 (w .repeats) k)
 
@@ -159,8 +160,8 @@ ended-back : (image : ℕ) (st : List ℕ) → image < 2 ^ 64 → fieldsIn (over
 unfolding fieldsIn kindOf numberAt little spelledAll spelled over
 ended-back image st short =
     let all : List ℕ = over (spelledAll (endedWords image)) st in
-    let read : numberAt 8 all 0 ≡ lowHalf image + 4294967296 * highHalf image =
-    number-eight all 0
+    let read : numberAt 8 all imagePlace ≡ lowHalf image + 4294967296 * highHalf image =
+    number-eight all imagePlace
     ∙ ap₂ (λ (x y : ℕ). x + 4294967296 * y)
     (little-spelled 4 (lowHalf image) (omega arith)) (little-spelled 4 (highHalf image) (omega arith)) in
     ap₂ session (read ∙ halves image short) refl
@@ -173,7 +174,7 @@ unfolding wordsOf
 phase-back image Ended st a short wish = ended-back image st short
 phase-back image (Waiting w) st a short wish = wait-back image w st (arises-wait image w a) short wish
 
-module _ (s : Session) (st : List ℕ) (a : arises s ≡ true) (r : Real s) (room : 56 ≤ length st) where
+module _ (s : Session) (st : List ℕ) (a : arises s ≡ true) (r : Real s) (room : recordBytes ≤ length st) where
   enough : 4 * length (wordsOf s) ≤ length st
   enough = rw (words-count s) room
 

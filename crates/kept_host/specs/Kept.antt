@@ -35,6 +35,8 @@ use Rattle.host_model.specs.declared.events.Answer.{Answer}
 use Rattle.host_model.specs.declared.events.Answer.the-variants.{Nothing, Sent, Done, Refused, Failed}
 use Rattle.host_model.specs.declared.views.LineRate.{LineRate}
 use Rattle.host_model.specs.declared.views.LineRate.the-variants.{AsItWas, Agreed}
+use Rattle.kept_host.specs.Record.{imagePlace, wishPlace, stagePlace, typePlace, firstPlace, ratePlace, startPlace, samePlace, sizePlace, numberPlace, waitedPlace, repeatsPlace}
+use Rattle.kept_host.specs.Record.{recordBytes, endedStage, textStage, askingStage, declaringStage, sendingStage, noticingStage, restartingStage}
 use Rattle.kept_host.specs.declared.words.Staged.{Staged}
 use Rattle.kept_host.specs.declared.answers.Told.{Told}
 
@@ -55,14 +57,14 @@ stageAt stage rate size number =
 
 -- The four words of a stage; what it does not have is 0.
 abbrev pub stageWords : Stage → Staged
-stageWords Text = record { stage = 1; rate = 0; size = 0; number = 0 }
-stageWords (Asking rate) = stageAt 2 rate 0 0
-stageWords (Declaring rate) = stageAt 3 rate 0 0
-stageWords (Sending rate size number) = stageAt 4 rate size number
-stageWords (Noticing rate size) = stageAt 5 rate size 0
-stageWords (Restarting rate size) = stageAt 6 rate size 0
+stageWords Text = record { stage = textStage; rate = 0; size = 0; number = 0 }
+stageWords (Asking rate) = stageAt askingStage rate 0 0
+stageWords (Declaring rate) = stageAt declaringStage rate 0 0
+stageWords (Sending rate size number) = stageAt sendingStage rate size number
+stageWords (Noticing rate size) = stageAt noticingStage rate size 0
+stageWords (Restarting rate size) = stageAt restartingStage rate size 0
 
--- The fourteen words of a session that waits.
+-- The words of a session that waits.
 abbrev pub waitWords : ℕ → Staged → Wait → List ℕ
 waitWords image s w =
     lowHalf image ∷ highHalf image ∷ lowHalf (w .plan .wish) ∷ highHalf (w .plan .wish)
@@ -72,7 +74,7 @@ waitWords image s w =
 
 -- The words of an ended one: its image length, and zeros.
 abbrev pub endedWords : ℕ → List ℕ
-endedWords image = lowHalf image ∷ highHalf image ∷ 0 ∷ 0 ∷ 0 ∷ 0 ∷ 0 ∷ 0 ∷ 0 ∷ 0 ∷ 0 ∷ 0 ∷ 0 ∷ 0 ∷ []
+endedWords image = lowHalf image ∷ highHalf image ∷ 0 ∷ 0 ∷ endedStage ∷ 0 ∷ 0 ∷ 0 ∷ 0 ∷ 0 ∷ 0 ∷ 0 ∷ 0 ∷ 0 ∷ []
 
 abbrev pub phaseWords : ℕ → Phase → List ℕ
 phaseWords image Ended = endedWords image
@@ -95,36 +97,36 @@ startIn n = cond (eqb n 1) WithText AtOnce
 unfoldable pub sameIn : ℕ → Same
 sameIn n = cond (eqb n 1) GoOn Stop
 
--- The stage of a number; any other than 1 to 5 is read as the restart.
+-- The stage of a number; any that is none of a stage before the restart is read as the restart.
 unfoldable pub stageOf : ℕ → Rate → ℕ → ℕ → Stage
 stageOf n rate size number =
-    cond (eqb n 1) Text
-    (cond (eqb n 2) (Asking rate)
-    (cond (eqb n 3) (Declaring rate)
-    (cond (eqb n 4) (Sending rate size number) (cond (eqb n 5) (Noticing rate size) (Restarting rate size)))))
+    cond (eqb n textStage) Text
+    (cond (eqb n askingStage) (Asking rate)
+    (cond (eqb n declaringStage) (Declaring rate)
+    (cond (eqb n sendingStage) (Sending rate size number) (cond (eqb n noticingStage) (Noticing rate size) (Restarting rate size)))))
 
 -- The stage and the plan at their places.
 unfoldable pub stageIn : List ℕ → Stage
-stageIn st = stageOf (getD st 16 0) (rateIn (getD st 28 0)) (numberAt 4 st 40) (numberAt 4 st 44)
+stageIn st = stageOf (getD st stagePlace 0) (rateIn (getD st ratePlace 0)) (numberAt 4 st sizePlace) (numberAt 4 st numberPlace)
 
 unfoldable pub planIn : Kind → List ℕ → Plan
 planIn kind st =
     record {
       kind = kind;
-      first = rateIn (getD st 24 0);
-      wish = numberAt 8 st 8;
-      start = startIn (getD st 32 0);
-      same = sameIn (getD st 36 0);
+      first = rateIn (getD st firstPlace 0);
+      wish = numberAt 8 st wishPlace;
+      start = startIn (getD st startPlace 0);
+      same = sameIn (getD st samePlace 0);
     }
 
 -- A type that is not known is read as a session that has ended.
 abbrev pub phaseIn : Known → List ℕ → Phase
-phaseIn (Is kind) st = Waiting (wait (planIn kind st) (stageIn st) (numberAt 4 st 48) (numberAt 4 st 52))
+phaseIn (Is kind) st = Waiting (wait (planIn kind st) (stageIn st) (numberAt 4 st waitedPlace) (numberAt 4 st repeatsPlace))
 phaseIn Unknown st = Ended
 
 -- The session that the numbers of some bytes say.
 unfoldable pub fieldsIn : List ℕ → Session
-fieldsIn st = session (numberAt 8 st 0) (phaseIn (kindOf (numberAt 2 st 20)) st)
+fieldsIn st = session (numberAt 8 st imagePlace) (phaseIn (kindOf (numberAt 2 st typePlace)) st)
 
 -- The bytes begin with the record of that session, and it could arise.
 unfoldable pub stands : List ℕ → Bool
@@ -132,7 +134,7 @@ stands st = standsFor (wordsOf (fieldsIn st)) st && arises (fieldsIn st)
 
 -- The session that bytes keep; any others keep an ended one over the image length that is in them.
 unfoldable pub sessionIn : List ℕ → Session
-sessionIn st = cond (stands st) (fieldsIn st) (endedOf (numberAt 8 st 0))
+sessionIn st = cond (stands st) (fieldsIn st) (endedOf (numberAt 8 st imagePlace))
 
 -- The bytes with another session kept in them; those that keep none are left as they are.
 unfoldable pub keptOf : List ℕ → Session → List ℕ
@@ -217,4 +219,4 @@ openingBy number first wish start same image output =
 -- 2 and nothing written for bytes without room; else the opening, and its session's record.
 unfoldable pub keptOpening : List ℕ → ℕ → ℕ → ℕ → ℕ → ℕ → List ℕ → List ℕ → Opened
 keptOpening st number first wish start same image output =
-    cond (ltb (length st) 56) (opened noRoom 0 st output) (openedAs (openingBy number first wish start same image output) st)
+    cond (ltb (length st) recordBytes) (opened noRoom 0 st output) (openedAs (openingBy number first wish start same image output) st)

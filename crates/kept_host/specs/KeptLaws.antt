@@ -15,27 +15,28 @@ use Rattle.host_model.specs.declared.waits.Phase.the-variants.{Ended, Waiting}
 use Rattle.host.specs.declared.session.Session.{Session}
 use Rattle.host_model.specs.declared.events.Event.{Event}
 use Rattle.host.specs.declared.session.Stepped.{Stepped}
+use Rattle.kept_host.specs.Record.{recordWords, recordBytes}
 use Rattle.kept_host.specs.Kept.{wordsOf, phaseWords, fieldsIn, sessionIn, keptOf, toldOf, kept, keptAs, keptStep, opened, openedAs}
 use Rattle.kept_host.specs.declared.answers.Told.{Told}
 
 -- ---- the record
 
--- A session has fourteen words.
-phase-count : (image : ℕ) (phase : Phase) → length (phaseWords image phase) ≡ 14
+-- How many words a session has.
+phase-count : (image : ℕ) (phase : Phase) → length (phaseWords image phase) ≡ recordWords
 phase-count image Ended = refl
 phase-count image (Waiting w) = refl
 
-pub words-count : (s : Session) → length (wordsOf s) ≡ 14
+pub words-count : (s : Session) → length (wordsOf s) ≡ recordWords
 unfolding wordsOf
 words-count s = phase-count (s .image) (s .phase)
 
 -- The record of the session read, written alone and compared with the front of the bytes, tells whether it stands there.
-pub compared : (st own after front : List ℕ) (s : Session) (same : Bool) → s ≡ fieldsIn st → length own ≡ 56
-    → after ≡ recorded (wordsOf s) own → front ≡ partOf st 0 56 → same ≡ sameBytes after front
+pub compared : (st own after front : List ℕ) (s : Session) (same : Bool) → s ≡ fieldsIn st → length own ≡ recordBytes
+    → after ≡ recorded (wordsOf s) own → front ≡ partOf st 0 recordBytes → same ≡ sameBytes after front
     → same ≡ standsFor (wordsOf (fieldsIn st)) st
 unfolding standsFor
 compared st own after front s same read e writes part compares =
-    let size : length (spelledAll (wordsOf s)) ≡ 56 = length-spelled-all (wordsOf s) ∙ rw (words-count s) in
+    let size : length (spelledAll (wordsOf s)) ≡ recordBytes = length-spelled-all (wordsOf s) ∙ rw (words-count s) in
     let all : after ≡ spelledAll (wordsOf s) = writes ∙ recorded-alone (wordsOf s) own (e ∙ rw (words-count s)) in
     compares
     ∙ rw (all, part)

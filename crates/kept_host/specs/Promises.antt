@@ -13,6 +13,7 @@ use Rattle.host_promises.specs.Runs.{Given, leaves, afterOf}
 use Rattle.host_model.specs.declared.waits.Phase.{Phase}
 use Rattle.host_model.specs.declared.waits.Phase.the-variants.{Ended, Waiting}
 use Rattle.host.specs.declared.session.Session.{Session}
+use Rattle.kept_host.specs.Record.{recordBytes}
 use Rattle.kept_host.specs.Kept.{startNumber, sameNumber, wordsOf, stands, sessionIn, Kept, keptAs, keptStep, Opened, openedAs, keptOpening}
 
 -- ---- a session is read as it was written
@@ -27,10 +28,10 @@ pub record Real (s : Session) : Type 0 where
   pub image-real : s .image < 2 ^ 64
   pub wish-real : wishIn (s .phase) < 2 ^ 64
 
--- Every session that can arise, written over any 56 bytes or more, stands there and is read as it was (Back.antt).
+-- Every session that can arise, written over bytes with room for its record, stands there and is read as it was (Back.antt).
 abbrev pub KeptBack : Type 0
 KeptBack =
-    (s : Session) (st : List ℕ) → arises s ≡ true → Real s → 56 ≤ length st
+    (s : Session) (st : List ℕ) → arises s ≡ true → Real s → recordBytes ≤ length st
     → (stands (recorded (wordsOf s) st) ≡ true) × (sessionIn (recorded (wordsOf s) st) ≡ s)
 
 -- ---- a run through kept bytes is the session's own
@@ -64,8 +65,8 @@ pub record RunKept (st : List ℕ) (number : ℕ) (w : Wishes) (image output : L
   pub bytes-same : bytesAfter (keptOpened st number w image output .state) gs
       ≡ recorded (wordsOf (afterOf (openingOf number w image output .session) gs)) st
 
--- From every opening over every image, in 56 bytes or more, whatever the steps are given (Run.antt).
+-- From every opening over every image, in bytes with room for a record, whatever the steps are given (Run.antt).
 abbrev pub KeptRun : Type 0
 KeptRun =
     (st : List ℕ) (number : ℕ) (w : Wishes) (image output : List ℕ) (gs : List Given)
-    → 56 ≤ length st → length image < 2 ^ 64 → w .wish < 2 ^ 64 → RunKept st number w image output gs
+    → recordBytes ≤ length st → length image < 2 ^ 64 → w .wish < 2 ^ 64 → RunKept st number w image output gs

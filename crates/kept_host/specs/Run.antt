@@ -37,6 +37,7 @@ use Rattle.host.specs.declared.session.Session.{Session}
 use Rattle.host_model.specs.declared.events.Event.{Event}
 use Rattle.host_model.specs.declared.events.Event.the-variants.{Frame, Line, Elapsed}
 use Rattle.host.specs.declared.session.Stepped.{Stepped}
+use Rattle.kept_host.specs.Record.{recordBytes}
 use Rattle.kept_host.specs.Kept.{startNumber, sameNumber, wordsOf, rateIn, startIn, sameIn, keptOf, Kept, keptAs, keptStep}
 use Rattle.kept_host.specs.Kept.{Opened, openedAs, wishesKnown, wishesIn, openingBy, keptOpening}
 use Rattle.flat.specs.Calls.{callsBy, bytesBy}
@@ -117,7 +118,7 @@ known-real Unknown w image output short wish = ended-real (length image) short
 
 -- ---- a step, and a run
 
-module _ (st : List ℕ) (room : 56 ≤ length st) where
+module _ (st : List ℕ) (room : recordBytes ≤ length st) where
   step-same : (s : Session) (g : Given) → arises s ≡ true → Real s
       → keptBy (recorded (wordsOf s) st) g ≡ keptAs (leaves s g) (recorded (wordsOf (leaves s g .session)) st)
   unfolding keptStep keptOf
@@ -175,11 +176,11 @@ module _ (w : Wishes) where
   wishes-back : wishesIn (numberOfRate (w .first)) (w .wish) (startNumber (w .start)) (sameNumber (w .same)) ≡ w
   wishes-back = rw (rate-read (w .first) .0, start-read (w .start) .0, same-read (w .same) .0)
 
-opened-same : (st : List ℕ) (number : ℕ) (w : Wishes) (image output : List ℕ) → 56 ≤ length st
+opened-same : (st : List ℕ) (number : ℕ) (w : Wishes) (image output : List ℕ) → recordBytes ≤ length st
     → keptOpened st number w image output ≡ openedAs (openingOf number w image output) st
 unfolding keptOpening openingBy
 opened-same st number w image output room =
-    cond-no _ _ _ (le-ltb (length st) 56 room)
+    cond-no _ _ _ (le-ltb (length st) recordBytes room)
     ∙ ap (λ (l : Left). openedAs l st)
     (cond-yes _ _ _ (wishes-known w) ∙ ap (λ (x : Wishes). openingOf number x image output) (wishes-back w))
 

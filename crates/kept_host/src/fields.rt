@@ -1,6 +1,7 @@
 // A session read from bytes, each number at its place.
 ghost use mathlib.Core.Path.{_≡_};
 ghost use Rattle.kept_host.specs.Kept.{rateIn, startIn, sameIn, stageOf, stageIn, planIn, phaseIn, fieldsIn};
+use crate::record;
 use host::Phase;
 use host::Session;
 use host::Wait;
@@ -16,9 +17,12 @@ use stages::Start;
 pub(crate) fn fields_in(state: &[u8]) -> Session
     ensures { λ r. ⌜ r ≡ fieldsIn (now (state .entry)) ⌝ }
 {
-    let phase = phase_in(kinds::kind_of(octets::two_at(state, 20)), state);
+    let phase = phase_in(
+        kinds::kind_of(octets::two_at(state, record::TYPE_PLACE)),
+        state,
+    );
     Session {
-        image: flat::eight_at(state, 0),
+        image: flat::eight_at(state, record::IMAGE_PLACE),
         phase: phase,
     }
 }
@@ -34,8 +38,8 @@ fn phase_in(known: Known, state: &[u8]) -> Phase
             Phase::Waiting(Wait {
                 plan: plan,
                 stage: stage,
-                waited: octets::four_at(state, 48),
-                repeats: octets::four_at(state, 52),
+                waited: octets::four_at(state, record::WAITED_PLACE),
+                repeats: octets::four_at(state, record::REPEATS_PLACE),
             })
         }
         Known::Unknown => Phase::Ended,
@@ -45,13 +49,13 @@ fn phase_in(known: Known, state: &[u8]) -> Phase
 fn plan_in(kind: Kind, state: &[u8]) -> Plan
     ensures { λ r. ⌜ r ≡ planIn kind (now (state .entry)) ⌝ }
 {
-    let first = rate_in(octets::byte_at(state, 24));
-    let start = start_in(octets::byte_at(state, 32));
-    let same = same_in(octets::byte_at(state, 36));
+    let first = rate_in(octets::byte_at(state, record::FIRST_PLACE));
+    let start = start_in(octets::byte_at(state, record::START_PLACE));
+    let same = same_in(octets::byte_at(state, record::SAME_PLACE));
     Plan {
         kind: kind,
         first: first,
-        wish: flat::eight_at(state, 8),
+        wish: flat::eight_at(state, record::WISH_PLACE),
         start: start,
         same: same,
     }
@@ -61,27 +65,27 @@ fn stage_in(state: &[u8]) -> Stage
     ensures { λ r. ⌜ r ≡ stageIn (now (state .entry)) ⌝ }
 {
     stage_of(
-        octets::byte_at(state, 16),
-        rate_in(octets::byte_at(state, 28)),
-        octets::four_at(state, 40) as usize,
-        octets::four_at(state, 44) as usize,
+        octets::byte_at(state, record::STAGE_PLACE) as u32,
+        rate_in(octets::byte_at(state, record::RATE_PLACE)),
+        octets::four_at(state, record::SIZE_PLACE) as usize,
+        octets::four_at(state, record::NUMBER_PLACE) as usize,
     )
 }
 
-// The stage of a number; any other than 1 to 5 is read as the restart.
-fn stage_of(n: u8, rate: Rate, size: usize, number: usize) -> Stage
+// The stage of a number; any that is none of a stage before the restart is read as the restart.
+fn stage_of(n: u32, rate: Rate, size: usize, number: usize) -> Stage
     ensures { λ r. ⌜ r ≡ stageOf n rate size number ⌝ }
 {
     match n {
-        1 => Stage::Text,
-        2 => Stage::Asking(rate),
-        3 => Stage::Declaring(rate),
-        4 => Stage::Sending {
+        record::TEXT_STAGE => Stage::Text,
+        record::ASKING_STAGE => Stage::Asking(rate),
+        record::DECLARING_STAGE => Stage::Declaring(rate),
+        record::SENDING_STAGE => Stage::Sending {
             rate: rate,
             size: size,
             number: number,
         },
-        5 => Stage::Noticing {
+        record::NOTICING_STAGE => Stage::Noticing {
             rate: rate,
             size: size,
         },

@@ -4,6 +4,7 @@ ghost use Rattle.flat.specs.Words.{recorded};
 ghost use Rattle.host.specs.Step.{endedOf};
 ghost use Rattle.kept_host.specs.Kept.{wordsOf, stands, sessionIn, keptOf};
 use crate::fields::fields_in;
+use crate::record;
 use crate::words::words_of;
 use host::Phase;
 use host::Session;
@@ -21,9 +22,9 @@ pub fn stands(state: &[u8]) -> bool
     ensures { λ r. ⌜ r ≡ stands (now (state .entry)) ⌝ }
 {
     let session = fields_in(state);
-    let mut own = [0u8; 56];
+    let mut own = [0u8; record::RECORD_BYTES];
     write(session, &mut own);
-    if !octets::same(&own, octets::part(state, 0, 56)) {
+    if !octets::same(&own, octets::part(state, 0, record::RECORD_BYTES)) {
         return false;
     }
     session.can_arise()
@@ -36,7 +37,7 @@ pub(crate) fn session_in(state: &[u8]) -> Session
     if stands(state) {
         return fields_in(state);
     }
-    over(flat::eight_at(state, 0))
+    over(flat::eight_at(state, record::IMAGE_PLACE))
 }
 
 // Another session kept in the bytes, where they keep one.

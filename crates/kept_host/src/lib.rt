@@ -1,9 +1,10 @@
-// A host's session for callers that keep it as bytes: fourteen words of four bytes each, read and written again at each call.
+// A host's session for callers that keep it as bytes: words of four bytes each (record.rt), read and written again at each call.
 mod answers;
 mod calls;
 mod fields;
 mod kept;
 mod opening;
+mod record;
 mod words;
 
 pub use calls::frame;

@@ -8,6 +8,7 @@ use crate::fields::same_in;
 use crate::fields::start_in;
 use crate::kept::over;
 use crate::kept::write;
+use crate::record;
 use host::Answer;
 use host::Session;
 use host::Stepped;
@@ -28,7 +29,7 @@ pub fn open(
         ≡ keptOpening (now (state .entry)) number first wish start same (now (image .entry)) (now (out .entry)) ⌝ }
 {
     *count = 0;
-    if state.len() < 56 {
+    if state.len() < record::RECORD_BYTES {
         return refusals::NO_ROOM;
     }
     let stepped = begin(number, image, first, wish, start, same, out);

@@ -1,6 +1,7 @@
-// The fourteen words of a session.
+// The words of a session.
 ghost use mathlib.Core.Path.{_≡_};
 ghost use Rattle.kept_host.specs.Kept.{startNumber, sameNumber, stageAt, stageWords, waitWords, wordsOf};
+use crate::record;
 use host::Phase;
 use host::Session;
 use host::Wait;
@@ -18,7 +19,7 @@ pub(crate) struct Staged {
     pub(crate) number: u32,
 }
 
-pub(crate) fn words_of(session: Session) -> [u32; 14]
+pub(crate) fn words_of(session: Session) -> [u32; record::RECORD_WORDS]
     ensures { λ r. ⌜ r ≡ wordsOf session ⌝ }
 {
     let phase = session.phase;
@@ -28,7 +29,7 @@ pub(crate) fn words_of(session: Session) -> [u32; 14]
             flat::high(session.image),
             0,
             0,
-            0,
+            record::ENDED_STAGE,
             0,
             0,
             0,
@@ -46,7 +47,7 @@ pub(crate) fn words_of(session: Session) -> [u32; 14]
     }
 }
 
-fn wait_words(image: usize, staged: Staged, wait: Wait) -> [u32; 14]
+fn wait_words(image: usize, staged: Staged, wait: Wait) -> [u32; record::RECORD_WORDS]
     ensures { λ r. ⌜ r ≡ waitWords image staged wait ⌝ }
 {
     let plan = wait.plan;
@@ -78,16 +79,21 @@ fn stage_words(stage: Stage) -> Staged
 {
     match stage {
         Stage::Text => Staged {
-            stage: 1,
+            stage: record::TEXT_STAGE,
             rate: 0,
             size: 0,
             number: 0,
         },
-        Stage::Asking(rate) => stage_at(2, rate, 0, 0),
-        Stage::Declaring(rate) => stage_at(3, rate, 0, 0),
-        Stage::Sending { rate, size, number } => stage_at(4, rate, size, number),
-        Stage::Noticing { rate, size } => stage_at(5, rate, size, 0),
-        Stage::Restarting { rate, size } => stage_at(6, rate, size, 0),
+        Stage::Asking(rate) => stage_at(record::ASKING_STAGE, rate, 0, 0),
+        Stage::Declaring(rate) => stage_at(record::DECLARING_STAGE, rate, 0, 0),
+        Stage::Sending { rate, size, number } => stage_at(
+            record::SENDING_STAGE,
+            rate,
+            size,
+            number,
+        ),
+        Stage::Noticing { rate, size } => stage_at(record::NOTICING_STAGE, rate, size, 0),
+        Stage::Restarting { rate, size } => stage_at(record::RESTARTING_STAGE, rate, size, 0),
     }
 }
 

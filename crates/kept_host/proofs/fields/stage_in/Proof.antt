@@ -26,6 +26,9 @@ four-at-requires-2 c κs = search needs
 cast-stage-of-2 : tie.Need-cast-stage-of-2
 cast-stage-of-2 c = search needs
 
+cast-stage-of-3 : tie.Need-cast-stage-of-3
+cast-stage-of-3 c = search needs
+
 stage-of-requires : tie.Need-stage-of-requires
 stage-of-requires c κs = search needs
 
@@ -46,11 +49,12 @@ stage-in-spec =
     tie.close
     (tie.spec
     byte-at-requires
+    cast-stage-of
     byte-at-requires-2
     rate-in-requires
     four-at-requires
-    cast-stage-of
-    four-at-requires-2
     cast-stage-of-2
+    four-at-requires-2
+    cast-stage-of-3
     stage-of-requires
     returns)
