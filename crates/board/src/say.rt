@@ -1,23 +1,22 @@
 // What the board says to a person, on standard error: the line may be standard output.
 use crate::station::Log;
 use console::voice;
+use kinds::Kind;
 use libc::STDERR_FILENO;
 use posts::View;
 use reader::Heard;
 use reader::Reader;
 
 fn say(words: &[u8]) {
-    voice::say(STDERR_FILENO, b"board: ");
     voice::say(STDERR_FILENO, words);
 }
 
 pub fn beginning(opened: bool, length: usize) {
-    say(b"flash of ");
-    voice::number(STDERR_FILENO, length);
+    voice::tell(STDERR_FILENO, b"board: flash of \0 bytes, ", &[length]);
     if opened {
-        voice::say(STDERR_FILENO, b" bytes, session open\n");
+        say(b"session open\n");
     } else {
-        voice::say(STDERR_FILENO, b" bytes, waiting for the start text\n");
+        say(b"waiting for the start text\n");
     }
 }
 
@@ -27,34 +26,42 @@ pub fn change(before: View, after: View, idle: bool) {
         return;
     }
     let stand = after.stand;
+    let kind = after.kind;
     match stand {
         0 => closed(idle),
-        1 => say(b"session open\n"),
-        2 => parameters(after),
-        4 => say(b"done, all packets are in the flash\n"),
+        1 => say(b"board: session open\n"),
+        2 => parameters(kind, after.length),
+        4 => say(b"board: done, all packets are in the flash\n"),
         _ => (),
     }
 }
 
 fn closed(idle: bool) {
     if idle {
-        say(b"closed after 7,000 ms of silence, waiting for the start text\n");
+        say(b"board: closed after 7,000 ms of silence, waiting for the start text\n");
     } else {
-        say(b"closed by a restart, waiting for the start text\n");
+        say(b"board: closed by a restart, waiting for the start text\n");
     }
 }
 
 pub fn dropped() {
-    say(b"a frame was dropped\n");
+    say(b"board: a frame was dropped\n");
 }
 
-fn parameters(view: View) {
-    let kind = view.kind;
-    say(b"parameters accepted: ");
+pub fn unwritten() {
+    say(b"board: the flash file could not be written; nothing was answered\n");
+}
+
+pub fn refusal(number: u8) {
+    say(b"board: ");
+    voice::refusal(STDERR_FILENO, number);
+    say(b"\n");
+}
+
+fn parameters(kind: Kind, length: usize) {
+    say(b"board: parameters accepted: ");
     voice::kind(STDERR_FILENO, kind);
-    voice::say(STDERR_FILENO, b", length ");
-    voice::number(STDERR_FILENO, view.length);
-    voice::say(STDERR_FILENO, b"\n");
+    voice::tell(STDERR_FILENO, b", length \0\n", &[length]);
 }
 
 // Reads a reply back, and says where it refuses something; answers whether it does. A text is no frame and refuses nothing.
@@ -91,21 +98,17 @@ fn refuses(heard: Heard, reader: Reader) -> bool {
 }
 
 fn refused(command: u8, ack: u8) {
-    say(b"command ");
+    say(b"board: command ");
     voice::byte(STDERR_FILENO, command);
-    voice::say(STDERR_FILENO, b" refused with ACK ");
+    say(b" refused with ACK ");
     voice::byte(STDERR_FILENO, ack);
-    voice::say(STDERR_FILENO, b"\n");
+    say(b"\n");
 }
 
 pub fn summary(log: Log, dropped: usize) {
-    say(b"the line has ended: ");
-    voice::number(STDERR_FILENO, log.packets);
-    voice::say(STDERR_FILENO, b" packets written, ");
-    voice::number(STDERR_FILENO, log.replies);
-    voice::say(STDERR_FILENO, b" replies, ");
-    voice::number(STDERR_FILENO, log.refused);
-    voice::say(STDERR_FILENO, b" of them refusals, ");
-    voice::number(STDERR_FILENO, dropped);
-    voice::say(STDERR_FILENO, b" frames dropped\n");
+    voice::tell(
+        STDERR_FILENO,
+        b"board: the line has ended: \0 packets written, \0 replies, \0 of them refusals, \0 frames dropped\n",
+        &[log.packets, log.replies, log.refused, dropped],
+    );
 }

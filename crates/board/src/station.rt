@@ -3,8 +3,6 @@ use crate::keep::keep_packet;
 use crate::say;
 use cable::Cable;
 use cable::Came;
-use console::voice;
-use libc::STDERR_FILENO;
 use module::Answer;
 use posts::Post;
 use posts::PostStep;
@@ -24,7 +22,9 @@ pub struct Log {
     pub packets: usize,
 }
 
+// More is the log's, where a loop can see it.
 struct Station {
+    more: bool,
     post: Post,
     log: Log,
 }
@@ -43,6 +43,7 @@ fn beginning(opened: bool, flash: &[u8]) -> Station {
         post = post.opened(flash);
     }
     Station {
+        more: true,
         post: post,
         log: Log {
             more: true,
@@ -57,16 +58,11 @@ fn beginning(opened: bool, flash: &[u8]) -> Station {
 fn run(station: Station, port: Port, flash: &mut [u8]) -> Station {
     let mut next = station;
     let mut turns = u64::MAX;
-    while turns > 0 && is_going(next) {
+    while turns > 0 && next.more {
         next = turn(next, port, flash);
         turns -= 1;
     }
     next
-}
-
-fn is_going(station: Station) -> bool {
-    let log = station.log;
-    log.more
 }
 
 // Reads once.
@@ -82,19 +78,15 @@ fn turn(station: Station, port: Port, flash: &mut [u8]) -> Station {
 }
 
 fn stopped(station: Station) -> Station {
-    let mut log = station.log;
-    log.more = false;
-    let post = station.post;
-    Station {
-        post: post,
-        log: log,
-    }
+    let mut next = station;
+    next.more = false;
+    next
 }
 
 fn hear_all(station: Station, port: Port, bytes: &[u8], flash: &mut [u8]) -> Station {
     let mut next = station;
     let mut i = 0;
-    while i < bytes.len() && is_going(next) {
+    while i < bytes.len() && next.more {
         next = hear(next, port, bytes[i], flash);
         i += 1;
     }
@@ -117,20 +109,32 @@ fn wait(station: Station, port: Port, flash: &mut [u8]) -> Station {
 
 // After a step: what has changed is told and kept, and the reply goes out.
 fn go(station: Station, port: Port, step: PostStep, reply: &[u8], flash: &[u8]) -> Station {
-    let before = station.post;
     let after = step.post;
     let answer = step.answer;
-    let log = station.log;
+    let log = told(station.log, port, station.post, after, answer, reply, flash);
+    Station {
+        more: log.more,
+        post: after,
+        log: log,
+    }
+}
+
+fn told(
+    log: Log,
+    port: Port,
+    before: Post,
+    after: Post,
+    answer: Answer,
+    reply: &[u8],
+    flash: &[u8],
+) -> Log {
     if before.dropped != after.dropped {
         say::dropped();
     }
     let old = posts::view_of(before);
     let new = posts::view_of(after);
     say::change(old, new, posts::is_idle(after));
-    Station {
-        post: after,
-        log: keep(log, port, old, new, answer, reply, flash),
-    }
+    keep(log, port, old, new, answer, reply, flash)
 }
 
 // What was written goes into the file first, so that what is acknowledged is there; then the reply goes out.
@@ -146,10 +150,7 @@ fn keep(
     let kept = keep_packet(port.file, before, after, flash);
     let mut next = log;
     if kept.failed {
-        voice::say(
-            STDERR_FILENO,
-            b"board: the flash file could not be written; nothing was answered\n",
-        );
+        say::unwritten();
         next.more = false;
         return next;
     }
@@ -164,9 +165,7 @@ fn answers(log: Log, port: Port, answer: Answer, reply: &[u8]) -> Log {
         Answer::Nothing => log,
         Answer::Sent(n) => send(log, port, octets::part(reply, 0, n)),
         Answer::Refused(number) => {
-            voice::say(STDERR_FILENO, b"board: ");
-            voice::refusal(STDERR_FILENO, number);
-            voice::say(STDERR_FILENO, b"\n");
+            say::refusal(number);
             log
         }
     }

@@ -10,6 +10,26 @@ pub fn number(fd: i32, n: usize) {
     io::print_decimal(fd, n as u64);
 }
 
+// Words with numbers in them: each zero in the words stands for the next number.
+pub fn tell(fd: i32, words: &[u8], numbers: &[usize]) {
+    let mut at = 0;
+    let mut i = 0;
+    while i < numbers.len() {
+        at = told(fd, words, at, numbers[i]);
+        i += 1;
+    }
+    say(fd, octets::behind(words, at));
+}
+
+// The words from a place up to their next zero, and the number; answers the place behind that zero.
+fn told(fd: i32, words: &[u8], at: usize, n: usize) -> usize {
+    let rest = octets::behind(words, at);
+    let length = octets::text_length(rest);
+    say(fd, octets::part(rest, 0, length));
+    number(fd, n);
+    std::num::wrapping_add_usize(at, std::num::wrapping_add_usize(length, 1))
+}
+
 // A refusal number and its words.
 pub fn refusal(fd: i32, number: u8) {
     say(fd, b"refused ");

@@ -1,8 +1,10 @@
 // Loads a UBF file over a simulated line with noise, and judges the flash after each block.
 mod verdict;
 
-use crate::verdict::Counts;
 use console::Got;
+use console::voice;
+use kinds::Kind;
+use libc::STDOUT_FILENO;
 use posts::Post;
 use ubf::Block;
 use ubf::Nth;
@@ -28,9 +30,9 @@ fn main() {
         rate: console::argument_number(3),
     };
     if os::arg_count() != 4 || wish.seed == u64::MAX || wish.rate > 100000 {
-        console::say(b"usage: desk FILE.ubf SEED RATE\n");
         console::say(
-            b"SEED is a number; of 100,000 bytes on the line about RATE are disturbed, 0 to 100000\n",
+            b"usage: desk FILE.ubf SEED RATE\n\
+              SEED is a number; of 100,000 bytes on the line about RATE are disturbed, 0 to 100000\n",
         );
         return;
     }
@@ -60,12 +62,7 @@ fn load_blocks(file: &[u8], wish: Wish) {
             number,
             place,
             count,
-        } => {
-            console::refusal(number);
-            console::say(b", at byte ");
-            console::number(place);
-            console::say(b" of the file; nothing is loaded\n");
-        }
+        } => verdict::refused(number, place),
         Nth::Found { block, place } => (),
     }
 }
@@ -79,12 +76,7 @@ fn erased() -> [u8; 262144] {
 fn load_all(file: &[u8], count: usize, wish: Wish) {
     let mut flash = erased();
     let walk = load_each(file, count, wish, &mut flash);
-    console::say(b"verdict: ");
-    console::number(walk.done);
-    console::say(b" of ");
-    console::number(count);
-    console::say(b" blocks done, ");
-    verdict::sum_up(walk.done == count, walk.right);
+    verdict::sum_up(walk.done, count, walk.right);
 }
 
 fn load_each(file: &[u8], count: usize, wish: Wish, flash: &mut [u8]) -> Walk {
@@ -106,7 +98,8 @@ fn load_each(file: &[u8], count: usize, wish: Wish, flash: &mut [u8]) -> Walk {
 fn load_nth(walk: Walk, file: &[u8], n: usize, rate: u64, flash: &mut [u8]) -> Walk {
     match ubf::block_at(file, n) {
         Nth::Found { block, place } => {
-            show_block(n, block);
+            let kind = block.kind;
+            show_block(n, kind, block.length, block.start);
             load_block(walk, block, octets::behind(file, place), rate, flash)
         }
         Nth::Past { count } => walk,
@@ -119,12 +112,13 @@ fn load_nth(walk: Walk, file: &[u8], n: usize, rate: u64, flash: &mut [u8]) -> W
 }
 
 // People count from 1.
-fn show_block(n: usize, block: Block) {
-    console::say(b"block ");
-    console::number(std::num::wrapping_add_usize(n, 1));
-    console::say(b": ");
-    let kind = block.kind;
-    console::placed(kind, block.length, block.start);
+fn show_block(n: usize, kind: Kind, length: u32, start: u32) {
+    voice::tell(
+        STDOUT_FILENO,
+        b"block \0: ",
+        &[std::num::wrapping_add_usize(n, 1)],
+    );
+    console::placed(kind, length, start);
     console::say(b"\n");
 }
 
@@ -135,18 +129,12 @@ fn load_block(walk: Walk, block: Block, bytes: &[u8], rate: u64, flash: &mut [u8
     let image = ubf::image(bytes, block);
     let post = walk.post;
     let kind = block.kind;
-    let desk = meeting::load(post, walk.noise, rate, kind, image, flash);
-    let after = desk.post;
-    let caller = desk.caller;
-    let log = desk.log;
-    let counts = Counts {
-        resent: caller.resent,
-        board_dropped: after.dropped,
-        host_dropped: caller.dropped,
-    };
+    let met = meeting::load(post, walk.noise, rate, kind, image, flash);
+    let after = met.post;
+    let log = met.log;
     let is_right = verdict::judge(
         log,
-        counts,
+        met.counts,
         kinds::base_of(kind) as usize,
         image,
         flash,

@@ -18,79 +18,72 @@ pub struct Port {
     pub fd: i32,
 }
 
-// Rated says that the agreed rate was told; tenth is the last tenth of the packets that was told; packets counts those that are known
-// to be accepted. A line that fails stops the load.
+// Going says that the load has not ended and the line has not failed; rated that the agreed rate was told; tenth is the last tenth of
+// the packets that was told; packets counts those that are known to be accepted.
 struct Log {
+    going: bool,
     rated: bool,
     tenth: usize,
     packets: usize,
-    broken: bool,
+    resent: usize,
     ending: Ending,
 }
 
+// Going is the log's, where a loop can see it.
 struct Loading {
+    going: bool,
     caller: Caller,
     log: Log,
 }
 
 // Answers whether the block is done.
 pub fn load_block(port: Port, options: Options, kind: Kind, image: &[u8]) -> bool {
-    let loading = run(open(port, options, kind, image), port, image);
-    let caller = loading.caller;
-    let log = loading.log;
+    let log = run(open(port, options, kind, image), port, image);
     let ending = log.ending;
-    posts::show_ending(port.fd, ending, log.packets, caller.resent);
+    posts::show_ending(port.fd, ending, log.packets, log.resent);
     ending.over && ending.number == 0
 }
 
 // Opens the session and sends its first message.
 fn open(port: Port, options: Options, kind: Kind, image: &[u8]) -> Loading {
     let mut out = [0u8; 2080];
+    let step = opening(options, kinds::number_of(kind), image, &mut out);
+    go(begun(), port, step, &out)
+}
+
+fn opening(options: Options, number: u16, image: &[u8], out: &mut [u8]) -> CallerStep {
     let rate = options.rate;
     let start = options.start;
     let same = options.same;
-    let opened = Session::opening(
-        kinds::number_of(kind),
-        image,
-        rate,
-        options.wish,
-        start,
-        same,
-        &mut out,
-    );
+    let opened = Session::opening(number, image, rate, options.wish, start, same, out);
     let session = opened.session;
     let answer = opened.answer;
-    Loading {
+    CallerStep {
         caller: Caller::new(session),
-        log: answers(begun(), port, answer, &out),
+        answer: answer,
     }
 }
 
 fn begun() -> Log {
     Log {
+        going: true,
         rated: false,
         tenth: 0,
         packets: 0,
-        broken: false,
+        resent: 0,
         ending: posts::begun(),
     }
 }
 
 // A proved loop has to end, and nothing says that a line does: so it counts its turns down from a number that no run uses up.
-fn run(loading: Loading, port: Port, image: &[u8]) -> Loading {
+fn run(loading: Loading, port: Port, image: &[u8]) -> Log {
     let mut next = loading;
     let mut turns = u64::MAX;
-    while turns > 0 && is_going(next) {
+    while turns > 0 && next.going {
         next = turn(next, port, image);
         turns -= 1;
     }
-    next
-}
-
-fn is_going(loading: Loading) -> bool {
-    let log = loading.log;
-    let ending = log.ending;
-    !ending.over && !log.broken
+    next.log
 }
 
 // Reads once. Behind the end of the input only time passes, until the session gives up.
@@ -106,19 +99,15 @@ fn turn(loading: Loading, port: Port, image: &[u8]) -> Loading {
 }
 
 fn broken(loading: Loading) -> Loading {
-    let mut log = loading.log;
-    log.broken = true;
-    let caller = loading.caller;
-    Loading {
-        caller: caller,
-        log: log,
-    }
+    let mut next = loading;
+    next.going = false;
+    next
 }
 
 fn hear_all(loading: Loading, port: Port, bytes: &[u8], image: &[u8]) -> Loading {
     let mut next = loading;
     let mut i = 0;
-    while i < bytes.len() && is_going(next) {
+    while i < bytes.len() && next.going {
         next = hear(next, port, bytes[i], image);
         i += 1;
     }
@@ -143,35 +132,47 @@ fn wait(loading: Loading, port: Port, image: &[u8]) -> Loading {
 fn go(log: Log, port: Port, step: CallerStep, out: &[u8]) -> Loading {
     let caller = step.caller;
     let answer = step.answer;
-    let session = caller.session();
-    let sent = answers(log, port, answer, out);
+    let sent = answers(log, port.cable, answer, out);
+    let told = shown(sent, port.fd, caller);
     Loading {
+        going: told.going,
         caller: caller,
-        log: tell(
-            sent,
-            port.fd,
-            session.progress(),
-            session.line_rate(),
-            caller.resent,
-        ),
+        log: told,
     }
 }
 
-fn answers(log: Log, port: Port, answer: Answer, out: &[u8]) -> Log {
-    let cable = port.cable;
+fn answers(log: Log, cable: Cable, answer: Answer, out: &[u8]) -> Log {
+    let ending = posts::ended_by(answer);
+    let is_sent = send(cable, octets::part(out, 0, posts::said(answer)));
     let mut next = log;
-    next.ending = posts::ended_by(answer);
-    let n = posts::said(answer);
-    if n > 0 && !cable::send(cable, octets::part(out, 0, n)) {
-        os::fail(b"the line");
-        next.broken = true;
-    }
+    next.going = is_sent && !ending.over;
+    next.ending = ending;
     next
+}
+
+fn send(cable: Cable, bytes: &[u8]) -> bool {
+    if bytes.len() == 0 || cable::send(cable, bytes) {
+        return true;
+    }
+    os::fail(b"the line");
+    false
+}
+
+fn shown(log: Log, fd: i32, caller: Caller) -> Log {
+    let session = caller.session();
+    tell(
+        log,
+        fd,
+        session.progress(),
+        session.line_rate(),
+        caller.resent,
+    )
 }
 
 // The agreed rate once, and a line at each tenth of the packets.
 fn tell(log: Log, fd: i32, progress: Progress, rate: LineRate, resent: usize) -> Log {
     let mut next = log;
+    next.resent = resent;
     if !log.rated {
         next.rated = say::rate(fd, rate);
     }

@@ -51,13 +51,7 @@ fn check(file: &[u8], options: Options) {
             number,
             place,
             count,
-        } => {
-            voice::say(STDERR_FILENO, b"load: ");
-            voice::refusal(STDERR_FILENO, number);
-            voice::say(STDERR_FILENO, b", at byte ");
-            voice::number(STDERR_FILENO, place);
-            voice::say(STDERR_FILENO, b" of the file; nothing was sent\n");
-        }
+        } => say::refused(number, place),
         Nth::Found { block, place } => (),
     }
 }
@@ -67,41 +61,40 @@ fn load_all(file: &[u8], count: usize, options: Options) {
     let length = os::arg(1, &mut path);
     let opened = cable::open(octets::part(&path, 0, length));
     match opened {
-        Opened::Line(cable) => load_each(file, count, options, cable),
+        Opened::Line(cable) => load_each(file, count, options, port_of(cable)),
         Opened::Failed => (),
     }
 }
 
 // Words go to standard output, unless that is the line.
-fn voice_of(cable: Cable) -> i32 {
+fn port_of(cable: Cable) -> Port {
+    let mut fd = STDERR_FILENO;
     if cable.terminal {
-        STDOUT_FILENO
-    } else {
-        STDERR_FILENO
+        fd = STDOUT_FILENO;
+    }
+    Port {
+        cable: cable,
+        fd: fd,
     }
 }
 
 // A block that is not done is the last one.
-fn load_each(file: &[u8], count: usize, options: Options, cable: Cable) {
+fn load_each(file: &[u8], count: usize, options: Options, port: Port) {
     let mut n = 0;
     let mut is_done = true;
     while n < count && is_done {
-        is_done = load_nth(file, n, options, cable);
+        is_done = load_nth(file, n, options, port);
         n += 1;
     }
-    say::verdict(voice_of(cable), n, count, is_done);
+    say::verdict(port.fd, n, count, is_done);
 }
 
-fn load_nth(file: &[u8], n: usize, options: Options, cable: Cable) -> bool {
+fn load_nth(file: &[u8], n: usize, options: Options, port: Port) -> bool {
     let nth = ubf::block_at(file, n);
     match nth {
         Nth::Found { block, place } => {
-            let port = Port {
-                cable: cable,
-                fd: voice_of(cable),
-            };
-            say::block(port.fd, n, block);
             let kind = block.kind;
+            say::block(port.fd, n, kind, block.length);
             load_block(
                 port,
                 options,

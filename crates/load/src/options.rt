@@ -20,35 +20,22 @@ pub enum Asked {
 pub fn usage() {
     voice::say(
         STDERR_FILENO,
-        b"usage: load LINE FILE.ubf [RATE] [PIECE] [START] [SAME]\n",
-    );
-    voice::say(
-        STDERR_FILENO,
-        b"LINE is a terminal, or - for standard input and output\nRATE is the rate that the line has: 9600 (the default), 19200, 38400, 57600 or 115200\n",
-    );
-    voice::say(
-        STDERR_FILENO,
-        b"PIECE is 1 to 1024 (the default) bytes a packet\nSTART is text (the default) or at-once: whether the start text is sent\n",
-    );
-    voice::say(
-        STDERR_FILENO,
-        b"SAME is go-on (the default) or stop: what to do when the module has the same version\n",
+        b"usage: load LINE FILE.ubf [RATE] [PIECE] [START] [SAME]\n\
+          LINE is a terminal, or - for standard input and output\n\
+          RATE is the rate that the line has: 9600 (the default), 19200, 38400, 57600 or 115200\n\
+          PIECE is 1 to 1024 (the default) bytes a packet\n\
+          START is text (the default) or at-once: whether the start text is sent\n\
+          SAME is go-on (the default) or stop: what to do when the module has the same version\n",
     );
 }
 
 pub fn read() -> Asked {
     let count = os::arg_count();
-    if count < 3 || count > 7 {
-        return Asked::Bad;
-    }
     let rate = number_or(3, count, 9600);
     let wish = number_or(4, count, 1024);
     let start = choice(5, count, b"text", b"at-once");
     let same = choice(6, count, b"go-on", b"stop");
-    if wish < 1 || wish > 1024 || start > 1 || same > 1 {
-        return Asked::Bad;
-    }
-    if !is_rate(rate) {
+    if !is_good(count, wish, start, same) || !is_rate(rate) {
         return Asked::Bad;
     }
     Asked::Good(Options {
@@ -57,6 +44,10 @@ pub fn read() -> Asked {
         start: start_of(start),
         same: same_of(same),
     })
+}
+
+fn is_good(count: usize, wish: u64, start: u8, same: u8) -> bool {
+    count >= 3 && count <= 7 && wish >= 1 && wish <= 1024 && start <= 1 && same <= 1
 }
 
 // A number, or its default where the argument is missing.

@@ -1,34 +1,36 @@
 // What the host says to a person.
 use console::voice;
 use host::LineRate;
+use kinds::Kind;
+use libc::STDERR_FILENO;
 use stages::Rate;
-use ubf::Block;
 
 // People count from 1.
-pub fn block(fd: i32, n: usize, block: Block) {
-    let kind = block.kind;
-    voice::say(fd, b"block ");
-    voice::number(fd, std::num::wrapping_add_usize(n, 1));
-    voice::say(fd, b": ");
+pub fn block(fd: i32, n: usize, kind: Kind, length: u32) {
+    voice::tell(fd, b"block \0: ", &[std::num::wrapping_add_usize(n, 1)]);
     voice::kind(fd, kind);
     voice::say(fd, b", address ");
     voice::word(fd, kinds::base_of(kind));
-    voice::say(fd, b", length ");
-    voice::number(fd, block.length as usize);
-    voice::say(fd, b"\n");
+    voice::tell(fd, b", length \0\n", &[length as usize]);
+}
+
+pub fn refused(number: u8, place: usize) {
+    voice::say(STDERR_FILENO, b"load: ");
+    voice::refusal(STDERR_FILENO, number);
+    voice::tell(
+        STDERR_FILENO,
+        b", at byte \0 of the file; nothing was sent\n",
+        &[place],
+    );
 }
 
 // A line at each tenth.
 pub fn packet(fd: i32, accepted: usize, total: usize, tenth: usize, resent: usize) {
-    voice::say(fd, b"packet ");
-    voice::number(fd, accepted);
-    voice::say(fd, b" of ");
-    voice::number(fd, total);
-    voice::say(fd, b", ");
-    voice::number(fd, tenth);
-    voice::say(fd, b"0 %, ");
-    voice::number(fd, resent);
-    voice::say(fd, b" resent\n");
+    voice::tell(
+        fd,
+        b"packet \0 of \0, \00 %, \0 resent\n",
+        &[accepted, total, tenth, resent],
+    );
 }
 
 // Says the agreed rate; answers whether there is one.
@@ -36,9 +38,11 @@ pub fn rate(fd: i32, rate: LineRate) -> bool {
     match rate {
         LineRate::AsItWas => false,
         LineRate::Agreed(agreed) => {
-            voice::say(fd, b"the line should now have ");
-            voice::number(fd, baud(agreed));
-            voice::say(fd, b" baud; it is left as it is\n");
+            voice::tell(
+                fd,
+                b"the line should now have \0 baud; it is left as it is\n",
+                &[baud(agreed)],
+            );
             true
         }
     }
@@ -56,15 +60,8 @@ fn baud(rate: Rate) -> usize {
 
 pub fn verdict(fd: i32, begun: usize, count: usize, is_done: bool) {
     if is_done {
-        voice::number(fd, count);
-        voice::say(fd, b" of ");
-        voice::number(fd, count);
-        voice::say(fd, b" blocks loaded\n");
+        voice::tell(fd, b"\0 of \0 blocks loaded\n", &[count, count]);
     } else {
-        voice::say(fd, b"stopped at block ");
-        voice::number(fd, begun);
-        voice::say(fd, b" of ");
-        voice::number(fd, count);
-        voice::say(fd, b"\n");
+        voice::tell(fd, b"stopped at block \0 of \0\n", &[begun, count]);
     }
 }

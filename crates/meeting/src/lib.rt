@@ -29,10 +29,24 @@ pub struct Log {
     pub ending: Ending,
 }
 
-pub struct Desk {
-    pub caller: Caller,
+// What the ends have counted.
+pub struct Counts {
+    pub resent: usize,
+    pub board_dropped: usize,
+    pub host_dropped: usize,
+}
+
+// What a load leaves.
+pub struct Met {
     pub post: Post,
+    pub counts: Counts,
     pub log: Log,
+}
+
+struct Desk {
+    caller: Caller,
+    post: Post,
+    log: Log,
 }
 
 // One end after its step, beside what has happened on the line.
@@ -47,20 +61,29 @@ struct Posted {
 }
 
 // Loads one image.
-pub fn load(post: Post, noise: u64, rate: u64, kind: Kind, image: &[u8], flash: &mut [u8]) -> Desk {
+pub fn load(post: Post, noise: u64, rate: u64, kind: Kind, image: &[u8], flash: &mut [u8]) -> Met {
     let mut out = [0u8; 8192];
     let mut back = [0u8; 8192];
-    let called = open(noise, rate, kind, image, &mut out);
-    let caller = called.caller;
-    let log = called.log;
     let mut there = post;
     there.dropped = 0;
-    let desk = Desk {
-        caller: caller,
-        post: there,
-        log: log,
+    let desk = open(there, noise, rate, kind, image, &mut out);
+    left(run(desk, image, flash, &mut out, &mut back))
+}
+
+fn left(desk: Desk) -> Met {
+    let caller = desk.caller;
+    let post = desk.post;
+    let log = desk.log;
+    let counts = Counts {
+        resent: caller.resent,
+        board_dropped: post.dropped,
+        host_dropped: caller.dropped,
     };
-    run(desk, image, flash, &mut out, &mut back)
+    Met {
+        post: post,
+        counts: counts,
+        log: log,
+    }
 }
 
 // Turns until the load has ended. A proved loop has to end, and a load does too, but that is not said here: so they are counted down.
@@ -81,7 +104,7 @@ fn is_going(desk: Desk) -> bool {
 }
 
 // The host opens its session, and its first message is under way.
-fn open(noise: u64, rate: u64, kind: Kind, image: &[u8], out: &mut [u8]) -> Called {
+fn open(post: Post, noise: u64, rate: u64, kind: Kind, image: &[u8], out: &mut [u8]) -> Desk {
     let mut message = [0u8; 2080];
     let opened = Session::opening(
         kinds::number_of(kind),
@@ -103,8 +126,9 @@ fn open(noise: u64, rate: u64, kind: Kind, image: &[u8], out: &mut [u8]) -> Call
         forged: 0,
         ending: posts::begun(),
     };
-    Called {
+    Desk {
         caller: Caller::new(session),
+        post: post,
         log: says(log, answer, &message, out),
     }
 }

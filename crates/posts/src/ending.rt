@@ -71,28 +71,25 @@ pub fn show_ending(fd: i32, ending: Ending, packets: usize, resent: usize) {
         voice::say(fd, b"done");
     } else {
         voice::refusal(fd, ending.number);
-        show_passed(fd, ending);
+        show_passed(fd, ending.number, ending.passed);
     }
-    voice::say(fd, b"; packets accepted ");
-    voice::number(fd, packets);
-    voice::say(fd, b", messages resent ");
-    voice::number(fd, resent);
-    voice::say(fd, b"\n");
+    voice::tell(
+        fd,
+        b"; packets accepted \0, messages resent \0\n",
+        &[packets, resent],
+    );
 }
 
-fn show_passed(fd: i32, ending: Ending) {
-    let number = ending.number;
+fn show_passed(fd: i32, number: u8, passed: u8) {
     match number {
-        refusals::MODULE_REFUSED => {
-            voice::say(fd, b", ACK ");
-            voice::byte(fd, ending.passed);
-            voice::say(fd, b" passed on");
-        }
-        refusals::BAD_NOTICE => {
-            voice::say(fd, b", State ");
-            voice::byte(fd, ending.passed);
-            voice::say(fd, b" passed on");
-        }
+        refusals::MODULE_REFUSED => show_byte(fd, b", ACK ", passed),
+        refusals::BAD_NOTICE => show_byte(fd, b", State ", passed),
         _ => (),
     }
+}
+
+fn show_byte(fd: i32, words: &[u8], passed: u8) {
+    voice::say(fd, words);
+    voice::byte(fd, passed);
+    voice::say(fd, b" passed on");
 }

@@ -5,10 +5,10 @@ use Rattle.load.proofs.load_each.Statement.{statement}
 use Rattle.load.proofs.load_each.Tie as tie
 
 abbrev Inv-loop : tie.InvT-loop
-Inv-loop file count options cable n₀ is-done₀ n is-done = Unit {0}
+Inv-loop file count options port n₀ is-done₀ n is-done = Unit {0}
 
 abbrev μ-loop : tie.MeasureT-loop
-μ-loop file count options cable n₀ is-done₀ n is-done = count - n
+μ-loop file count options port n₀ is-done₀ n is-done = count - n
 
 loop-holds : tie.Need-loop-holds Inv-loop μ-loop
 loop-holds c = search needs
@@ -24,9 +24,6 @@ loop-less c = search needs
 
 loop-again : tie.Need-loop-again Inv-loop μ-loop
 loop-again c = search needs
-
-voice-of-requires : tie.Need-voice-of-requires Inv-loop μ-loop
-voice-of-requires c κs = search needs
 
 verdict-requires : tie.Need-verdict-requires Inv-loop μ-loop
 verdict-requires c κs = search needs
@@ -45,6 +42,5 @@ load-each-spec =
     add-n
     loop-less
     loop-again
-    voice-of-requires
     verdict-requires
     returns)

@@ -15,9 +15,6 @@ abbrev μ-loop : tie.MeasureT-loop
 loop-holds : tie.Need-loop-holds Inv-loop μ-loop
 loop-holds c = search needs
 
-is-going-requires : tie.Need-is-going-requires Inv-loop μ-loop
-is-going-requires c κs = search needs
-
 shared-slice-read-hear : tie.Need-shared-slice-read-hear Inv-loop μ-loop
 shared-slice-read-hear c = search needs
 
@@ -52,7 +49,6 @@ hear-all-spec =
     Inv-loop
     μ-loop
     loop-holds
-    is-going-requires
     shared-slice-read-hear
     hear-requires
     add-i

@@ -14,9 +14,6 @@ abbrev μ-loop : tie.MeasureT-loop
 loop-holds : tie.Need-loop-holds Inv-loop μ-loop
 loop-holds c = search needs
 
-is-going-requires : tie.Need-is-going-requires Inv-loop μ-loop
-is-going-requires c κs = search needs
-
 turn-requires : tie.Need-turn-requires Inv-loop μ-loop
 turn-requires c κs = search needs
 
@@ -48,7 +45,6 @@ run-spec =
     Inv-loop
     μ-loop
     loop-holds
-    is-going-requires
     turn-requires
     sub-turns
     loop-less
