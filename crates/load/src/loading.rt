@@ -189,7 +189,7 @@ fn tell(log: Log, fd: i32, progress: Progress, rate: LineRate, resent: usize) ->
 
 // No load has more than 65,535 packets.
 fn tenth_of(accepted: usize, total: usize) -> usize {
-    if total == 0 || accepted > 65535 {
+    if total == 0 || accepted > commands::LARGEST_TOTAL {
         return 0;
     }
     accepted * 10 / total

@@ -32,7 +32,7 @@ pub fn usage() {
 pub fn read() -> Asked {
     let count = os::arg_count();
     let rate = number_or(3, count, 9600);
-    let wish = number_or(4, count, 1024);
+    let wish = number_or(4, count, commands::LARGEST_PACKET as u64);
     let start = choice(5, count, b"text", b"at-once");
     let same = choice(6, count, b"go-on", b"stop");
     if !is_good(count, wish, start, same) || !is_rate(rate) {

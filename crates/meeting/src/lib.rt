@@ -110,7 +110,7 @@ fn open(post: Post, noise: u64, rate: u64, kind: Kind, image: &[u8], out: &mut [
         kinds::number_of(kind),
         image,
         Rate::R115200,
-        1024,
+        commands::LARGEST_PACKET,
         Start::WithText,
         Same::GoOn,
         &mut message,
