@@ -12,8 +12,8 @@ use Rattle.flat.specs.Calls.{callsBy, bytesBy}
 use Rattle.module_model.specs.Phases.{longestIdle, openable}
 use Rattle.module.specs.Session.{openingOf, arises}
 use Rattle.module.specs.Step.{Left, timeStep}
-use Rattle.module_promises.specs.Runs.{Given, exchange, nextOf, afterOf, runOf, AllBytes}
-use Rattle.module_promises.specs.Steps.{Step, refuses, sleeps, waits, hears, step-of}
+use Rattle.module_promises.specs.Runs.{Given, exchange, nextOf, afterOf, afterBy, runOf, runBy, AllBytes}
+use Rattle.module_promises.specs.Steps.{Case, refuses, sleeps, waits, hears, step-of}
 use Rattle.module_promises.specs.Promises.{opened, online}
 use Rattle.module_promises.specs.Arises.{reached-arises}
 use Rattle.module.specs.declared.session.Session.{Session}
@@ -34,7 +34,7 @@ time-flash s ms = either-way (λ (r : Stepped). r .session .flash ≡ s .flash) 
 step-flash : (s : Session) (g : Given) → nextOf s g .flash ≡ s .flash
 step-flash s g = go (exchange s g .left) (step-of s g)
   where
-    go : (x : Left) → Step s g x → x .session .flash ≡ s .flash
+    go : (x : Left) → Case s g x → x .session .flash ≡ s .flash
     go x (refuses n e) = rw e
     go x (sleeps t e) = rw e
     go x (waits t size ms ev e) = rw e (time-flash s ms)
@@ -61,7 +61,7 @@ runs-kept : (st : List ℕ) (s : Session) (gs : List Given) → ((hs : List Give
     → s .flash < 18446744073709551616 → AllBytes gs → recordBytes ≤ length st
     → (callsOf (recorded (wordsOf s) st) gs ≡ map (told st) (runOf s gs))
     × (bytesAfter (recorded (wordsOf s) st) gs ≡ recorded (wordsOf (afterOf s gs)) st)
-unfolding callsBy bytesBy runOf afterOf
+unfolding callsBy bytesBy runBy afterBy
 runs-kept st s [] good f bytes room = (refl, refl)
 runs-kept st s (g ∷ gs) good f bytes room =
     let x = exchange s g in

@@ -36,7 +36,7 @@ use Rattle.module_model.specs.Rules.{framesOf, dataIn, taken, placeOf, rateAck,
 use Rattle.module_model.specs.RulesLaws.{RateOf, rate-yes, rate-one, restart-none, state-whole, decide-rate, decide-restart}
 use Rattle.module.specs.Step.{smallestReply, performed}
 use Rattle.module.specs.Step as module-step
-use Rattle.module_promises.specs.Runs.{Offer, Exchange, exchange, given, carried, carriedAfter, heardIn}
+use Rattle.module_promises.specs.Runs.{Offer, Exchange, exchange, given, carried, carriedBy, carriedAfter, heardIn}
 use Rattle.module_promises.specs.Runs as module-runs
 use Rattle.module_promises.specs.RunsLaws.{heard-wires, heard-nothing, heard-performed}
 use Rattle.module_promises.specs.Promises.{Frames}
@@ -131,7 +131,7 @@ cut-for image size some one most = go (decLe size (length image))
 -- What is left after a run is what its last exchange left.
 carried-last : (os : List Offer) (s : ModuleSession) (flash : List ℕ) (before : List Exchange) (x : Exchange)
     → carried s flash os ≡ before ++ (x ∷ []) → carriedAfter s flash os .flash ≡ x .left .flash
-unfolding carried carriedAfter
+unfolding carriedBy carriedAfter
 carried-last [] s flash before x e = absurd (omega (arith, ap length e, length-append before (x ∷ [])))
 carried-last (o ∷ []) s flash before x e =
     ap (λ (y : Exchange). y .left .flash) (last-single (exchange s (given flash o)) x before e)

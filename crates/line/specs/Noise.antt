@@ -23,7 +23,7 @@ use Rattle.reader.specs.declared.steps.Heard.{Heard}
 use Rattle.reader.specs.declared.steps.Heard.the-variants.{Nothing, Frame as Whole, Dropped}
 use Rattle.module.specs.Session.{takes}
 use Rattle.module.specs.Step.{Left, wiresOf}
-use Rattle.module_promises.specs.Runs.{Exchange, Offer, exchange, given, carried}
+use Rattle.module_promises.specs.Runs.{Exchange, Offer, exchange, given, carried, carriedBy}
 use Rattle.module_promises.specs.RunsLaws.{ShortFrames}
 use Rattle.module_promises.specs.Promises.{Frames, Fits, EndsInSuccess}
 use Rattle.module.specs.declared.session.Session.{Session}
@@ -216,13 +216,13 @@ record FramesFed (b : Board) (flash : List ℕ) (xs : List Fed) (fs : List Frame
 
 -- Where a frame is offered there is an exchange.
 some-carried : (f : Frame) (fs : List Frame) (os : List Offer) (s : Session) (flash : List ℕ) → EachFrame (f ∷ fs) os → carried s flash os ≡ [] → ⊥
-unfolding carried
+unfolding carriedBy
 some-carried f fs [] s flash h e = h
 some-carried f fs (o ∷ os) s flash h e = not-none e
 
 -- The wire form of one frame.
 fed-one : (b : Board) (flash : List ℕ) (xs : List Fed) (f : Frame) → FrameFed b flash xs f → FramesFed b flash xs (f ∷ [])
-unfolding carried
+unfolding carriedBy
 fed-one b flash xs f h = record {
   offers = h .offer ∷ [];
   each = (h .frames, refl);
@@ -245,7 +245,7 @@ last-after ls ms l h = record {
 -- A frame before others.
 fed-more : (b : Board) (flash : List ℕ) (ys zs : List Fed) (f g : Frame) (fs : List Frame) → FrameFed b flash ys f
     → FramesFed (boardAfter b flash ys .board) (boardAfter b flash ys .flash) zs (g ∷ fs) → FramesFed b flash (ys ++ zs) (f ∷ g ∷ fs)
-unfolding carried
+unfolding carriedBy
 fed-more b flash ys zs f g fs h m =
     let now = exchange (b .session) (given flash (h .offer)) in
     let moved : boardAfter b flash ys .board .session ≡ now .left .session = ap (λ (a : BoardAfter). a .board .session) (h .after) in

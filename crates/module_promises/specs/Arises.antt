@@ -17,8 +17,8 @@ use Rattle.module_model.specs.Leads.{advance-held}
 use Rattle.module.specs.Session.{session, openingOf, takes, arises}
 use Rattle.module.specs.SessionLaws.{takes-facts, facts-takes}
 use Rattle.module.specs.Step.{Left, timeStep}
-use Rattle.module_promises.specs.Runs.{Given, nextOf, afterOf, AllBytes, exchange}
-use Rattle.module_promises.specs.Steps.{Step, refuses, sleeps, waits, hears, step-of, outcome-of}
+use Rattle.module_promises.specs.Runs.{Given, nextOf, afterOf, afterBy, AllBytes, exchange}
+use Rattle.module_promises.specs.Steps.{Case, refuses, sleeps, waits, hears, step-of, outcome-of}
 use Rattle.module_promises.specs.Promises.{Opening, online, openedBy, ReachedArises}
 use Rattle.module_model.specs.declared.phases.Phase.{Phase}
 use Rattle.module_model.specs.declared.phases.Phase.the-variants.{Closed, Ready, Begun}
@@ -71,7 +71,7 @@ frame-arises s command payload flash d t size (repeats p number c x k same e) = 
 step-arises : (s : Session) (g : Given) → arises s ≡ true → Bytes (g .payload) → arises (nextOf s g) ≡ true
 step-arises s g a bytes = go (exchange s g .left) (step-of s g)
   where
-    go : (x : Left) → Step s g x → arises (x .session) ≡ true
+    go : (x : Left) → Case s g x → arises (x .session) ≡ true
     go x (refuses n e) = rw e a
     go x (sleeps t e) = rw e a
     go x (waits t size ms ev e) = rw e (time-arises s ms t)
@@ -92,7 +92,7 @@ opening-arises (online flash) =
 
 -- A run.
 run-arises : (s : Session) (gs : List Given) → arises s ≡ true → AllBytes gs → arises (afterOf s gs) ≡ true
-unfolding afterOf
+unfolding afterBy
 run-arises s [] a bytes = a
 run-arises s (g ∷ gs) a bytes = run-arises (nextOf s g) gs (step-arises s g a (bytes .0)) (bytes .1)
 

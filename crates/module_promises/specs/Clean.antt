@@ -25,7 +25,7 @@ use Rattle.module_model.specs.Laid.{taken-laid, last-says, flashAfter, flash-lo
 use Rattle.module.specs.Session.{session, takes}
 use Rattle.module.specs.SessionLaws.{takes-facts}
 use Rattle.module.specs.Step.{Left, performed, stepOf, smallestReply}
-use Rattle.module_promises.specs.Runs.{Exchange, exchange, given, Offer, carried, carriedAfter, heardIn, sentBy}
+use Rattle.module_promises.specs.Runs.{Exchange, exchange, given, Offer, carried, carriedBy, carriedAfter, heardIn, sentBy}
 use Rattle.module_promises.specs.RunsLaws.{heard-performed, carried-append}
 use Rattle.module_promises.specs.Promises.{Pause, Frames, PacketFirst, PacketsFrom, CleanTransfer, Fits, EndsInSuccess}
 use Rattle.module_promises.specs.Promises.{CleanSucceeds}
@@ -150,7 +150,7 @@ after-pause p image flash n os Rest c most less h k =
 last-ends : (p : Pieces) (image flash : List ℕ) (n idle : ℕ) (o : Offer) → Carries p image (length flash) → n + 1 ≡ totalOf p
     → takes (session (length flash) idle (waiting p n)) ≡ true → Frames packetCommand (packetFor image (p .size) (n + 1)) o
     → Succeeds p image flash n idle (o ∷ [])
-unfolding carried
+unfolding carriedBy
 last-ends p image flash n idle o c last t f =
     let s = session (length flash) idle (waiting p n) in
     let now = flashAfter p image flash n in
@@ -179,7 +179,7 @@ next-ends : (p : Pieces) (image flash : List ℕ) (n idle : ℕ) (o : Offer) (os
     → n + 1 < totalOf p → takes (session (length flash) idle (waiting p n)) ≡ true
     → Frames packetCommand (packetFor image (p .size) (n + 1)) o → Succeeds p image flash (n + 1) 0 os
     → Succeeds p image flash n idle (o ∷ os)
-unfolding carried
+unfolding carriedBy
 next-ends p image flash n idle o os c less t f e =
     let s = session (length flash) idle (waiting p n) in
     let now = flashAfter p image flash n in
@@ -224,7 +224,7 @@ parameters-leave s flash kind image o t long fits f =
 cut-succeeds : (s : Session) (flash : List ℕ) (kind : Kind) (image : List ℕ) (size : ℕ) (os : List Offer) → takes s ≡ true
     → length flash ≡ s .flash → Fits kind image size flash → size ≤ length image → CleanTransfer (s .idle) kind image size os
     → EndsInSuccess (carried s flash os) (countOf (length image) size) (laid flash (baseOf kind) image)
-unfolding carried
+unfolding carriedBy
 cut-succeeds s flash kind image size os t long fits within-image h =
     let p : Pieces = record { transfer = transferFor kind image; size = size } in
     let total = countOf (length image) size in

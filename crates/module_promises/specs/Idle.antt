@@ -16,11 +16,11 @@ use Rattle.module_model.specs.Leads.{held-open, frame-only}
 use Rattle.module_model.specs.Answers.{isRefused}
 use Rattle.module.specs.Session.{session, stepped, takes}
 use Rattle.module.specs.SessionLaws.{takes-facts}
-use Rattle.module.specs.Step.{Left, left, timeStep, answerOf}
+use Rattle.module.specs.Step.{Left, left, timeStep, answerOf, stepOf}
 use Rattle.module_promises.specs.Runs.{Given, exchange, nextOf, payloadOf}
 use Rattle.module_promises.specs.RunsLaws.{heard-performed}
 use Rattle.module_promises.specs.Forward.{time-counted, time-closed}
-use Rattle.module_promises.specs.Steps.{Step, refuses, sleeps, waits, hears, step-of, outcome-of}
+use Rattle.module_promises.specs.Steps.{Case, refuses, sleeps, waits, hears, step-of, outcome-of}
 use Rattle.module_promises.specs.Promises.{Closes, idle, restart, IdleRule, RefusedLeaves, ClosedLeaves}
 use Rattle.module_model.specs.declared.events.Event.{Event}
 use Rattle.module_model.specs.declared.events.Event.the-variants.{Frame, Elapsed}
@@ -56,13 +56,13 @@ isFrame (Elapsed ms) = false
 -- ---- the promises
 
 -- What closes an open session.
-closes-only : (s : Session) → takes s ≡ true → (g : Given) → Bytes (g .payload) → isClosed (nextOf s g .phase) ≡ true → Closes s g
+closes-only : (s : Session) → takes s ≡ true → (g : Given) → Bytes (g .payload) → isClosed (nextOf s g .phase) ≡ true → Closes stepOf s g
 closes-only s t g bytes = go (exchange s g .left) refl (step-of s g)
   where
     opens : isClosed (s .phase) ≡ false
     opens = held-open (s .phase) (s .flash) (takes-facts s t .1)
 
-    go : (x : Left) → exchange s g .left ≡ x → Step s g x → isClosed (x .session .phase) ≡ true → Closes s g
+    go : (x : Left) → exchange s g .left ≡ x → Case s g x → isClosed (x .session .phase) ≡ true → Closes stepOf s g
     go x at (refuses n e) c = absurd (false≢true (sym opens ∙ (rw e at c)))
     go x at (sleeps closed e) c = absurd (false≢true (sym closed ∙ t))
     go x at (waits open-now size ms ev e) c = idle ms ev (time-only s ms opens (rw e at c))
@@ -76,7 +76,7 @@ frame-restarts : (s : Session) → takes s ≡ true → (g : Given) (command cou
     → isRefused (exchange s g .left .answer) ≡ false → nextOf s g .idle ≡ 0
 frame-restarts s t g command count is = go (exchange s g .left) (step-of s g)
   where
-    go : (x : Left) → Step s g x → isRefused (x .answer) ≡ false → x .session .idle ≡ 0
+    go : (x : Left) → Case s g x → isRefused (x .answer) ≡ false → x .session .idle ≡ 0
     go x (refuses n e) r = absurd (false≢true (sym (rw e at r)))
     go x (sleeps closed e) r = absurd (false≢true (sym closed ∙ t))
     go x (waits open-now size ms ev e) r = absurd (false≢true (ap isFrame (sym ev ∙ is)))
@@ -93,7 +93,7 @@ idle-rule s t = record {
 pub refused-leaves : RefusedLeaves
 refused-leaves s g n = go (exchange s g .left) (step-of s g)
   where
-    go : (x : Left) → Step s g x → x .answer ≡ Refused n → x ≡ left (stepped s (Refused n)) (g .flash) (g .reply)
+    go : (x : Left) → Case s g x → x .answer ≡ Refused n → x ≡ left (stepped s (Refused n)) (g .flash) (g .reply)
     go x (refuses m e) r = e ∙ ap (λ (a : Answer). left (stepped s a) (g .flash) (g .reply)) (rw e at r)
     go x (sleeps closed e) r = absurd (false≢true (ap isRefused (rw e at r)))
     go x (waits open-now size ms ev e) r = absurd (false≢true (ap isRefused (sym (time-answer s ms) ∙ (rw e at r))))
@@ -102,7 +102,7 @@ refused-leaves s g n = go (exchange s g .left) (step-of s g)
 pub closed-leaves : ClosedLeaves
 closed-leaves s g closed = go (exchange s g .left) (step-of s g)
   where
-    go : (x : Left) → Step s g x → isRefused (x .answer) ≡ false → x ≡ left (stepped s Nothing) (g .flash) (g .reply)
+    go : (x : Left) → Case s g x → isRefused (x .answer) ≡ false → x ≡ left (stepped s Nothing) (g .flash) (g .reply)
     go x (refuses n e) r = absurd (false≢true (sym (rw e at r)))
     go x (sleeps n e) r = e
     go x (waits open-now size ms ev e) r = absurd (false≢true (sym closed ∙ open-now))

@@ -15,7 +15,6 @@ pub mod Flash
 pub mod Reach
 pub mod Clean
 pub mod Readings
-pub mod Of
 pub mod Tiny
 pub mod Wrong
 pub mod WrongNever

@@ -18,8 +18,8 @@ use Rattle.module_model.specs.Rules.{dataIn, typeField, lengthField}
 use Rattle.module_model.specs.Answers.{isRefused}
 use Rattle.module.specs.Session.{session, stepped, openingOf, takes, arises}
 use Rattle.module.specs.Step.{left, smallestReply, stepOf}
-use Rattle.module_promises.specs.Runs.{Given, Exchange, exchange, nextOf, afterOf, runOf, AllBytes, Says, payloadOf, Offer}
-use Rattle.module_promises.specs.Runs.{carried}
+use Rattle.module_promises.specs.Runs.{Step, Given, Exchange, exchangeBy, nextBy, afterBy, runBy, AllBytes, Says, payloadOf}
+use Rattle.module_promises.specs.Runs.{Offer, carriedBy}
 use Rattle.module_model.specs.declared.phases.Phase.the-variants.{Closed}
 use Rattle.module_model.specs.declared.events.Event.{Event}
 use Rattle.module_model.specs.declared.events.Event.the-variants.{Frame, Elapsed}
@@ -83,14 +83,17 @@ pub record Success (s : Session) (history : List Exchange) (x : Exchange) : Type
 -- M1 (Success.antt). Over any run from any opening, with any flash and any reply buffer lent at each step, the notice of State 0 is
 -- in a reply exactly when the event is the last packet or its repeat and each of 1 to Total has been acknowledged since the last
 -- accepted parameters. Acceptance is read off replies.
-abbrev pub SuccessExactly : Type 0
-SuccessExactly =
+abbrev pub SuccessExactlyOf : Step → Type 0
+SuccessExactlyOf step =
     (o : Opening) (gs : List Given) (g : Given) → AllBytes gs → Bytes (g .payload)
-    → let s = afterOf (openedBy o) gs in
-    let x = exchange s g in
-    let history = runOf (openedBy o) gs ++ (x ∷ []) in
+    → let s = afterBy step (openedBy o) gs in
+    let x = exchangeBy step s g in
+    let history = runBy step (openedBy o) gs ++ (x ∷ []) in
     (Says x (notice 0) → Success s history x)
     × ((total : ℕ) → LastPacket x total → AllAccepted history total → Says x (notice 0))
+
+abbrev pub SuccessExactly : Type 0
+SuccessExactly = SuccessExactlyOf stepOf
 
 -- ---- M2, the flash
 
@@ -144,11 +147,14 @@ pub record FlashAtSuccess (history : List Exchange) (x : Exchange) : Type 0 wher
 
 -- M2 (Flash.antt). At success, where nobody else has written since the parameters, the declared range holds the data of packets 1
 -- to Total in order, and every other byte is what it was.
-abbrev pub SuccessHolds : Type 0
-SuccessHolds =
+abbrev pub SuccessHoldsOf : Step → Type 0
+SuccessHoldsOf step =
     (o : Opening) (gs : List Given) (g : Given) → AllBytes gs → Bytes (g .payload)
-    → let x = exchange (afterOf (openedBy o) gs) g in
-    Says x (notice 0) → FlashAtSuccess (runOf (openedBy o) gs ++ (x ∷ [])) x
+    → let x = exchangeBy step (afterBy step (openedBy o) gs) g in
+    Says x (notice 0) → FlashAtSuccess (runBy step (openedBy o) gs ++ (x ∷ [])) x
+
+abbrev pub SuccessHolds : Type 0
+SuccessHolds = SuccessHoldsOf stepOf
 
 -- A place lies in the range of the last accepted parameters.
 pub record InRange (history : List Exchange) (i : ℕ) : Type 0 where
@@ -160,12 +166,15 @@ pub record InRange (history : List Exchange) (i : ℕ) : Type 0 where
 
 -- M2, at every step (Flash.antt). Whatever flash is lent, it keeps its length, and a byte of it changes only in the range of the
 -- transfer under way.
-abbrev pub OnlyInRange : Type 0
-OnlyInRange =
+abbrev pub OnlyInRangeOf : Step → Type 0
+OnlyInRangeOf step =
     (o : Opening) (gs : List Given) (g : Given) → AllBytes gs → Bytes (g .payload)
-    → let x = exchange (afterOf (openedBy o) gs) g in
+    → let x = exchangeBy step (afterBy step (openedBy o) gs) g in
     (length (x .left .flash) ≡ length (g .flash))
-    × ((i : ℕ) → (getD (x .left .flash) i 0 ≡ getD (g .flash) i 0 → ⊥) → InRange (runOf (openedBy o) gs) i)
+    × ((i : ℕ) → (getD (x .left .flash) i 0 ≡ getD (g .flash) i 0 → ⊥) → InRange (runBy step (openedBy o) gs) i)
+
+abbrev pub OnlyInRange : Type 0
+OnlyInRange = OnlyInRangeOf stepOf
 
 -- ---- M3, the clean transfer
 
@@ -224,53 +233,68 @@ pub record EndsInSuccess (xs : List Exchange) (total : ℕ) (flash : List ℕ) :
 
 -- M3 (Clean.antt). From any open session a clean transfer that fits, over the flash of the opening, which nobody else writes, ends
 -- in success with the image in its range and no other byte changed. The sum that the session brings counts as time gone.
-abbrev pub CleanSucceeds : Type 0
-CleanSucceeds =
+abbrev pub CleanSucceedsOf : Step → Type 0
+CleanSucceedsOf step =
     (s : Session) (flash : List ℕ) (kind : Kind) (image : List ℕ) (size : ℕ) (os : List Offer) → takes s ≡ true
     → length flash ≡ s .flash → Fits kind image size flash → CleanTransfer (s .idle) kind image size os
-    → EndsInSuccess (carried s flash os) (countOf (length image) size) (laid flash (baseOf kind) image)
+    → EndsInSuccess (carriedBy step s flash os) (countOf (length image) size) (laid flash (baseOf kind) image)
+
+abbrev pub CleanSucceeds : Type 0
+CleanSucceeds = CleanSucceedsOf stepOf
 
 -- ---- M4, idle
 
 -- What closes an open session: a sum over 7,000, or an accepted 0x06.
-pub data Closes (s : Session) (g : Given) : Type 0 where
-  idle : (ms : ℕ) → g .event ≡ Elapsed ms → longestIdle < s .idle + ms → Closes s g
-  restart : (count : ℕ) → g .event ≡ Frame restartCommand count → Says (exchange s g) (restartReply accepted) → Closes s g
+pub data Closes (step : Step) (s : Session) (g : Given) : Type 0 where
+  idle : (ms : ℕ) → g .event ≡ Elapsed ms → longestIdle < s .idle + ms → Closes step s g
+  restart : (count : ℕ) → g .event ≡ Frame restartCommand count → Says (exchangeBy step s g) (restartReply accepted) → Closes step s g
 
 -- M4 (Idle.antt). In an open session, over the flash of the opening and with room for a reply:
-pub record Idle (s : Session) : Type 0 where
+pub record Idle (step : Step) (s : Session) : Type 0 where
   -- a sum of up to 7,000 is kept and nothing else moves,
   pub stays : (ms : ℕ) (payload flash reply : List ℕ) → smallestReply ≤ length reply → length flash ≡ s .flash → s .idle + ms ≤ longestIdle
-      → stepOf s (Elapsed ms) payload flash reply ≡ left (stepped (session (s .flash) (s .idle + ms) (s .phase)) Nothing) flash reply
+      → step s (Elapsed ms) payload flash reply ≡ left (stepped (session (s .flash) (s .idle + ms) (s .phase)) Nothing) flash reply
   -- a sum over it closes, and stops at 7,001,
   pub closes : (ms : ℕ) (payload flash reply : List ℕ) → smallestReply ≤ length reply → length flash ≡ s .flash → longestIdle < s .idle + ms
-      → stepOf s (Elapsed ms) payload flash reply ≡ left (stepped (session (s .flash) closingIdle Closed) Nothing) flash reply
+      → step s (Elapsed ms) payload flash reply ≡ left (stepped (session (s .flash) closingIdle Closed) Nothing) flash reply
   -- a frame that is not refused sets the sum to 0,
-  pub restarts : (g : Given) (command count : ℕ) → g .event ≡ Frame command count → isRefused (exchange s g .left .answer) ≡ false
-      → nextOf s g .idle ≡ 0
+  pub restarts : (g : Given) (command count : ℕ) → g .event ≡ Frame command count → isRefused (exchangeBy step s g .left .answer) ≡ false
+      → nextBy step s g .idle ≡ 0
   -- and only such a sum and an accepted 0x06 close.
-  pub only : (g : Given) → Bytes (g .payload) → isClosed (nextOf s g .phase) ≡ true → Closes s g
+  pub only : (g : Given) → Bytes (g .payload) → isClosed (nextBy step s g .phase) ≡ true → Closes step s g
+
+abbrev pub IdleRuleOf : Step → Type 0
+IdleRuleOf step = (s : Session) → takes s ≡ true → Idle step s
 
 abbrev pub IdleRule : Type 0
-IdleRule = (s : Session) → takes s ≡ true → Idle s
+IdleRule = IdleRuleOf stepOf
 
 -- M4, what is refused (Idle.antt): 2 or 3, and session with its sum, flash and reply buffer stay as lent; time is not counted.
+abbrev pub RefusedLeavesOf : Step → Type 0
+RefusedLeavesOf step =
+    (s : Session) (g : Given) (n : ℕ) → exchangeBy step s g .left .answer ≡ Refused n
+    → exchangeBy step s g .left ≡ left (stepped s (Refused n)) (g .flash) (g .reply)
+
 abbrev pub RefusedLeaves : Type 0
-RefusedLeaves =
-    (s : Session) (g : Given) (n : ℕ) → exchange s g .left .answer ≡ Refused n
-    → exchange s g .left ≡ left (stepped s (Refused n)) (g .flash) (g .reply)
+RefusedLeaves = RefusedLeavesOf stepOf
 
 -- A closed session, or one that could not arise, answers nothing but 2 and 3, and nothing changes (Idle.antt).
+abbrev pub ClosedLeavesOf : Step → Type 0
+ClosedLeavesOf step =
+    (s : Session) (g : Given) → takes s ≡ false → isRefused (exchangeBy step s g .left .answer) ≡ false
+    → exchangeBy step s g .left ≡ left (stepped s Nothing) (g .flash) (g .reply)
+
 abbrev pub ClosedLeaves : Type 0
-ClosedLeaves =
-    (s : Session) (g : Given) → takes s ≡ false → isRefused (exchange s g .left .answer) ≡ false
-    → exchange s g .left ≡ left (stepped s Nothing) (g .flash) (g .reply)
+ClosedLeaves = ClosedLeavesOf stepOf
 
 -- ---- M5, which sessions arise
 
 -- M5 (Arises.antt). Every session that an opening and any run of steps leads to passes the test.
+abbrev pub ReachedArisesOf : Step → Type 0
+ReachedArisesOf step = (o : Opening) (gs : List Given) → AllBytes gs → arises (afterBy step (openedBy o) gs) ≡ true
+
 abbrev pub ReachedArises : Type 0
-ReachedArises = (o : Opening) (gs : List Given) → AllBytes gs → arises (afterOf (openedBy o) gs) ≡ true
+ReachedArises = ReachedArisesOf stepOf
 
 -- What the types of the calls let through: bytes, a command byte, milliseconds of 32 bits.
 abbrev pub RealEvent : Event → Type 0
@@ -288,13 +312,16 @@ AllReal [] = Unit
 AllReal (g ∷ gs) = Real g × AllReal gs
 
 -- An opening and a run of steps that lead to a session.
-pub record Reached (s : Session) : Type 0 where
+pub record Reached (step : Step) (s : Session) : Type 0 where
   pub opening : Opening
   pub opening-bytes : OpeningBytes opening
   pub steps : List Given
   pub real : AllReal steps
-  pub leads : afterOf (openedBy opening) steps ≡ s
+  pub leads : afterBy step (openedBy opening) steps ≡ s
 
 -- M5, the other way (Reach.antt). Every session that passes the test is reached by some opening and some run.
+abbrev pub ArisesReachedOf : Step → Type 0
+ArisesReachedOf step = (s : Session) → arises s ≡ true → Reached step s
+
 abbrev pub ArisesReached : Type 0
-ArisesReached = (s : Session) → arises s ≡ true → Reached s
+ArisesReached = ArisesReachedOf stepOf

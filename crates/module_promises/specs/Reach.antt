@@ -25,8 +25,8 @@ use Rattle.module_model.specs.Due.{parameters-accepted, Carries, waiting, waiti
 use Rattle.module_model.specs.Due.{taken-waits, taken-done}
 use Rattle.module.specs.Session.{session, takes, arises}
 use Rattle.module.specs.SessionLaws.{facts-takes, takes-facts}
-use Rattle.module.specs.Step.{Left, smallestReply}
-use Rattle.module_promises.specs.Runs.{Given, Offer, given, nextOf, afterOf}
+use Rattle.module.specs.Step.{Left, smallestReply, stepOf}
+use Rattle.module_promises.specs.Runs.{Given, Offer, given, nextOf, afterOf, afterBy}
 use Rattle.module_promises.specs.RunsLaws.{after-append}
 use Rattle.module_promises.specs.Promises.{opened, online, openedBy, Frames, RealEvent, Real, AllReal, Reached, ArisesReached}
 use Rattle.module_promises.specs.Forward.{opened-ready, opened-closed, waiting-takes, frame-taken, counted-takes, time-counted}
@@ -47,8 +47,8 @@ all-real-next [] g h r = (r, tt)
 all-real-next (x ∷ gs) g h r = (h .0, all-real-next gs g (h .1) r)
 
 -- What a step from a session that is reached leads to is reached.
-reach-next : (s t : Session) (g : Given) → Real g → nextOf s g ≡ t → Reached s → Reached t
-unfolding afterOf
+reach-next : (s t : Session) (g : Given) → Real g → nextOf s g ≡ t → Reached stepOf s → Reached stepOf t
+unfolding afterBy
 reach-next s t g r e h =
     record {
       opening = h .opening;
@@ -79,7 +79,7 @@ step-real n event payload e b =
 
 -- The phase that a frame decides is reached.
 reach-frame : (s : Session) (command : ℕ) (payload : List ℕ) (phase : Phase) → takes s ≡ true → command < 256 → Bytes payload
-    → decideOf (s .phase) command payload (zeros (s .flash)) .phase ≡ phase → Reached s → Reached (session (s .flash) 0 phase)
+    → decideOf (s .phase) command payload (zeros (s .flash)) .phase ≡ phase → Reached stepOf s → Reached stepOf (session (s .flash) 0 phase)
 reach-frame s command payload phase t byte b decides h =
     let g = stepGiven (s .flash) (Frame command (length payload)) payload in
     let o : Offer = record { event = g .event; payload = payload; reply = g .reply } in
@@ -93,14 +93,14 @@ reach-frame s command payload phase t byte b decides h =
 -- ---- openings
 
 -- An opening of a flash of zeros: ready where it can be opened, else closed.
-reach-opened : (n : ℕ) (s : Session) → opened (zeros n) ≡ s → Reached s
-unfolding afterOf
+reach-opened : (n : ℕ) (s : Session) → opened (zeros n) ≡ s → Reached stepOf s
+unfolding afterBy
 reach-opened n s e = record { opening = online (zeros n); opening-bytes = bytes-replicate n 0 (omega arith); steps = []; real = tt; leads = e }
 
-reach-ready : (n : ℕ) → openable n ≡ true → Reached (session n 0 Ready)
+reach-ready : (n : ℕ) → openable n ≡ true → Reached stepOf (session n 0 Ready)
 reach-ready n can = reach-opened n (session n 0 Ready) (opened-ready (zeros n) n (zeros-long n) can)
 
-reach-unopened : (n : ℕ) → openable n ≡ false → Reached (session n 0 Closed)
+reach-unopened : (n : ℕ) → openable n ≡ false → Reached stepOf (session n 0 Closed)
 reach-unopened n cannot = reach-opened n (session n 0 Closed) (opened-closed (zeros n) n (zeros-long n) cannot)
 
 -- A ready session over a flash that can be opened takes events.
@@ -113,7 +113,7 @@ ready-takes n can =
 
 -- Parameters that fit, over a flash that can be opened.
 reach-begun : (t : Transfer) (flash : ℕ) → openable flash ≡ true → FitsFlash (t .kind) (t .length) flash
-    → Reached (session flash 0 (Begun t))
+    → Reached stepOf (session flash 0 (Begun t))
 reach-begun t flash can f =
     let image = zeros (t .length) in
     let payload = parametersFor (t .kind) (length image) in
@@ -142,7 +142,7 @@ zeros-carried p flash f c = record { whole = zeros-long (p .transfer .length); f
 -- The packet that is due leads from a phase that waits to the phase with it.
 reach-packet : (p : Pieces) (flash n : ℕ) (phase : Phase) → openable flash ≡ true
     → FitsFlash (p .transfer .kind) (p .transfer .length) flash → Cut p → n < totalOf p
-    → phaseAt p (n + 1) (writtenWith p n) ≡ phase → Reached (session flash 0 (waiting p n)) → Reached (session flash 0 phase)
+    → phaseAt p (n + 1) (writtenWith p n) ≡ phase → Reached stepOf (session flash 0 (waiting p n)) → Reached stepOf (session flash 0 phase)
 reach-packet p flash n phase can f c less e h =
     let image = zeros (p .transfer .length) in
     let payload = packetFor image (p .size) (n + 1) in
@@ -156,7 +156,7 @@ reach-packet p flash n phase can f c less e h =
 
 -- Every phase that waits is reached, packet by packet.
 reach-waiting : (p : Pieces) (flash n : ℕ) → openable flash ≡ true → FitsFlash (p .transfer .kind) (p .transfer .length) flash → Cut p
-    → n < totalOf p → Reached (session flash 0 (waiting p n))
+    → n < totalOf p → Reached stepOf (session flash 0 (waiting p n))
 reach-waiting p flash zero can f c less = rw (waiting-none p) (reach-begun (p .transfer) flash can f)
 reach-waiting p flash (suc n) can f c less =
     let before : n < totalOf p = omega (arith, less) in
@@ -166,7 +166,7 @@ reach-waiting p flash (suc n) can f c less =
 
 -- With packet Total the transfer is done.
 reach-done : (p : Pieces) (flash : ℕ) → openable flash ≡ true → FitsFlash (p .transfer .kind) (p .transfer .length) flash → Cut p
-    → Reached (session flash 0 (Done p (p .transfer .length)))
+    → Reached stepOf (session flash 0 (Done p (p .transfer .length)))
 reach-done p flash can f c =
     let n = totalOf p - 1 in
     let some = cut-total p c in
@@ -175,7 +175,7 @@ reach-done p flash can f c =
     (reach-waiting p flash n can f c less)
 
 -- Every phase that holds.
-reach-held : (phase : Phase) (flash : ℕ) → openable flash ≡ true → held phase flash ≡ true → Reached (session flash 0 phase)
+reach-held : (phase : Phase) (flash : ℕ) → openable flash ≡ true → held phase flash ≡ true → Reached stepOf (session flash 0 phase)
 reach-held Closed flash can h = absurd (false≢true h)
 reach-held Ready flash can h = reach-ready flash can
 reach-held (Begun t) flash can h = reach-begun t flash can (fits-flash (t .kind) (t .length) flash h)
@@ -189,7 +189,7 @@ reach-held (Done p written) flash can h =
     rw (d .all) (reach-done p flash can (d .fitting) (d .cut))
 
 -- Every session that takes events: its phase, and then the time that it has waited.
-reach-open : (s : Session) → takes s ≡ true → Reached s
+reach-open : (s : Session) → takes s ≡ true → Reached stepOf s
 reach-open s t =
     let facts = takes-facts s t in
     let can : openable (s .flash) ≡ true = sizes-openable (s .flash) (facts .0 .some) (facts .0 .most) in
@@ -205,13 +205,13 @@ reach-open s t =
 -- ---- closed sessions
 
 -- An accepted 0x06 closes with the sum 0.
-reach-restarted : (flash : ℕ) → openable flash ≡ true → Reached (session flash 0 Closed)
+reach-restarted : (flash : ℕ) → openable flash ≡ true → Reached stepOf (session flash 0 Closed)
 unfolding decideOf restartDecision
 reach-restarted flash can =
     reach-frame (session flash 0 Ready) restartCommand [] Closed (ready-takes flash can) (omega arith) tt refl (reach-ready flash can)
 
 -- A sum over 7,000 closes with 7,001.
-reach-expired : (flash : ℕ) → openable flash ≡ true → Reached (session flash closingIdle Closed)
+reach-expired : (flash : ℕ) → openable flash ≡ true → Reached stepOf (session flash closingIdle Closed)
 reach-expired flash can =
     let ready = session flash 0 Ready in
     let g = stepGiven flash (Elapsed closingIdle) [] in
@@ -221,11 +221,11 @@ reach-expired flash can =
     reach-next ready (session flash closingIdle Closed) g real (ap (λ (l : Left). l .session) closes) (reach-ready flash can)
 
 -- With the sum 0 any flash will do: one that cannot be opened is refused.
-reach-closed : (flash : ℕ) (t : Bool) → openable flash ≡ t → Reached (session flash 0 Closed)
+reach-closed : (flash : ℕ) (t : Bool) → openable flash ≡ t → Reached stepOf (session flash 0 Closed)
 reach-closed flash true can = reach-restarted flash can
 reach-closed flash false cannot = reach-unopened flash cannot
 
-reach-shut : (flash idle : ℕ) (phase : Phase) → isClosed phase ≡ true → closedArises flash idle ≡ true → Reached (session flash idle phase)
+reach-shut : (flash idle : ℕ) (phase : Phase) → isClosed phase ≡ true → closedArises flash idle ≡ true → Reached stepOf (session flash idle phase)
 unfolding closedArises
 reach-shut flash idle Closed c h =
     one-holds (eqb idle 0) (eqb idle closingIdle && openable flash)

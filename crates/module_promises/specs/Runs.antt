@@ -27,21 +27,38 @@ pub record Exchange : Type 0 where
   pub given : Given
   pub left : Left
 
+-- A step: what it leaves of a session, an event, a payload, a flash and a reply buffer. Runs and promises are told of any step, so
+-- that they can be refuted of a wrong one; the names that end in `Of`, and `exchange` and `carried`, are of ours.
+abbrev pub Step : Type 0
+Step = Session → Event → List ℕ → List ℕ → List ℕ → Left
+
+abbrev pub exchangeBy : Step → Session → Given → Exchange
+exchangeBy step s g = record { given = g; left = step s (g .event) (g .payload) (g .flash) (g .reply) }
+
 abbrev pub exchange : Session → Given → Exchange
-exchange s g = record { given = g; left = stepOf s (g .event) (g .payload) (g .flash) (g .reply) }
+exchange s g = exchangeBy stepOf s g
 
 -- The session after a step, and after a run.
-abbrev pub nextOf : Session → Given → Session
-nextOf s g = exchange s g .left .session
+abbrev pub nextBy : Step → Session → Given → Session
+nextBy step s g = exchangeBy step s g .left .session
 
-unfoldable pub afterOf : Session → List Given → Session
-afterOf s [] = s
-afterOf s (g ∷ gs) = afterOf (nextOf s g) gs
+abbrev pub nextOf : Session → Given → Session
+nextOf s g = nextBy stepOf s g
+
+unfoldable pub afterBy : Step → Session → List Given → Session
+afterBy step s [] = s
+afterBy step s (g ∷ gs) = afterBy step (nextBy step s g) gs
+
+abbrev pub afterOf : Session → List Given → Session
+afterOf s gs = afterBy stepOf s gs
 
 -- The exchanges of a run.
-unfoldable pub runOf : Session → List Given → List Exchange
-runOf s [] = []
-runOf s (g ∷ gs) = exchange s g ∷ runOf (nextOf s g) gs
+unfoldable pub runBy : Step → Session → List Given → List Exchange
+runBy step s [] = []
+runBy step s (g ∷ gs) = exchangeBy step s g ∷ runBy step (nextBy step s g) gs
+
+abbrev pub runOf : Session → List Given → List Exchange
+runOf s gs = runBy stepOf s gs
 
 -- Every payload of a run is bytes.
 abbrev pub AllBytes : List Given → Type 0
@@ -83,10 +100,13 @@ abbrev pub given : List ℕ → Offer → Given
 given flash o = record { event = o .event; payload = o .payload; flash = flash; reply = o .reply }
 
 -- The exchanges of such a run.
-unfoldable pub carried : Session → List ℕ → List Offer → List Exchange
-carried s flash [] = []
-carried s flash (o ∷ os) =
-    exchange s (given flash o) ∷ carried (nextOf s (given flash o)) (exchange s (given flash o) .left .flash) os
+unfoldable pub carriedBy : Step → Session → List ℕ → List Offer → List Exchange
+carriedBy step s flash [] = []
+carriedBy step s flash (o ∷ os) =
+    let x = exchangeBy step s (given flash o) in x ∷ carriedBy step (x .left .session) (x .left .flash) os
+
+abbrev pub carried : Session → List ℕ → List Offer → List Exchange
+carried s flash os = carriedBy stepOf s flash os
 
 -- Session and flash after such a run.
 pub record Carried : Type 0 where

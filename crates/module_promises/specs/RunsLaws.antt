@@ -15,7 +15,7 @@ use Rattle.module_model.specs.Rules.{framesOf}
 use Rattle.module_model.specs.Answers.{countIn}
 use Rattle.module.specs.Step.{wiresOf, answerOf, performed}
 use Rattle.module_promises.specs.Runs.{Given, Exchange, Offer, exchange, given, nextOf, afterOf, carried, carriedAfter, heardIn}
-use Rattle.module_promises.specs.Runs.{sentBy}
+use Rattle.module_promises.specs.Runs.{afterBy, carriedBy, sentBy}
 use Rattle.module_model.specs.declared.rules.Decision.{Decision}
 use Rattle.module_model.specs.declared.rules.Say.{Say}
 use Rattle.module_model.specs.declared.rules.Say.the-variants.{Nothing, Rate, Parameters, Packet, Last, Restart}
@@ -72,13 +72,13 @@ heard-nothing = heard-wires [] tt
 
 -- A run behind another.
 pub after-append : (s : Session) (gs hs : List Given) → afterOf s (gs ++ hs) ≡ afterOf (afterOf s gs) hs
-unfolding afterOf
+unfolding afterBy
 after-append s [] hs = refl
 after-append s (g ∷ gs) hs = after-append (nextOf s g) gs hs
 
 pub carried-append : (s : Session) (flash : List ℕ) (os ps : List Offer)
     → carried s flash (os ++ ps) ≡ carried s flash os ++ carried (carriedAfter s flash os .session) (carriedAfter s flash os .flash) ps
-unfolding carried carriedAfter
+unfolding carriedBy carriedAfter
 carried-append s flash [] ps = refl
 carried-append s flash (o ∷ os) ps =
     let x = exchange s (given flash o) in ap (λ (xs : List Exchange). x ∷ xs) (carried-append (x .left .session) (x .left .flash) os ps)

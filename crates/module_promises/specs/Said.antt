@@ -25,7 +25,7 @@ use Rattle.module.specs.Session.{stepped, takes}
 use Rattle.module.specs.Step.{Left, left, timeStep, performed}
 use Rattle.module_promises.specs.Runs.{Given, Exchange, exchange, nextOf, sentBy, heardIn, Says, payloadOf}
 use Rattle.module_promises.specs.RunsLaws.{heard-performed, heard-nothing}
-use Rattle.module_promises.specs.Steps.{Step, refuses, sleeps, waits, hears, step-of, outcome-of}
+use Rattle.module_promises.specs.Steps.{Case, refuses, sleeps, waits, hears, step-of, outcome-of}
 use Rattle.module_promises.specs.Idle.{time-answer, reply-taken}
 use Rattle.module_promises.specs.Promises.{lengthIn}
 use Rattle.module_model.specs.declared.phases.Transfer.{Transfer}
@@ -153,7 +153,7 @@ silent-turn s g r none phase e =
 pub turn-of : (s : Session) (g : Given) → Bytes (g .payload) → Turn s g
 turn-of s g bytes = go (exchange s g .left) refl (step-of s g)
   where
-    go : (l : Left) → exchange s g .left ≡ l → Step s g l → Turn s g
+    go : (l : Left) → exchange s g .left ≡ l → Case s g l → Turn s g
     go l at (refuses n e) = silent-turn s g (stepped s (answer.Refused n)) refl (inl refl) (at ∙ e)
     go l at (sleeps t e) = silent-turn s g (stepped s answer.Nothing) refl (inl refl) (at ∙ e)
     go l at (waits t size ms ev e) = silent-turn s g (timeStep s ms) (ap countIn (time-answer s ms)) (time-phase s ms) (at ∙ e)

@@ -23,28 +23,28 @@ use Rattle.module_model.specs.declared.rules.Say.the-variants.{Nothing}
 use Rattle.module.specs.declared.session.Session.{Session}
 
 -- What a step can be: refused; not taken; time in an open session; a frame in an open session.
-pub data Step (s : Session) (g : Given) (x : Left) : Type 0 where
-  refuses : (n : ℕ) → x ≡ left (stepped s (answer.Refused n)) (g .flash) (g .reply) → Step s g x
-  sleeps : takes s ≡ false → x ≡ left (stepped s answer.Nothing) (g .flash) (g .reply) → Step s g x
+pub data Case (s : Session) (g : Given) (x : Left) : Type 0 where
+  refuses : (n : ℕ) → x ≡ left (stepped s (answer.Refused n)) (g .flash) (g .reply) → Case s g x
+  sleeps : takes s ≡ false → x ≡ left (stepped s answer.Nothing) (g .flash) (g .reply) → Case s g x
   waits : takes s ≡ true → length (g .flash) ≡ s .flash → (ms : ℕ) → g .event ≡ Elapsed ms → x ≡ left (timeStep s ms) (g .flash) (g .reply)
-      → Step s g x
+      → Case s g x
   hears : takes s ≡ true → length (g .flash) ≡ s .flash → (command count : ℕ) → g .event ≡ Frame command count
-      → x ≡ performed s (decideOf (s .phase) command (payloadOf g) (g .flash)) (payloadOf g) (g .flash) (g .reply) → Step s g x
+      → x ≡ performed s (decideOf (s .phase) command (payloadOf g) (g .flash)) (payloadOf g) (g .flash) (g .reply) → Case s g x
 
 -- An event in an open session.
 event-step : (s : Session) (e : Event) (payload flash reply : List ℕ) → takes s ≡ true → length flash ≡ s .flash
-    → Step s (record { event = e; payload = payload; flash = flash; reply = reply }) (eventStep s e payload flash reply)
+    → Case s (record { event = e; payload = payload; flash = flash; reply = reply }) (eventStep s e payload flash reply)
 unfolding frameStep
 event-step s (Frame command count) payload flash reply t size = hears t size command count refl refl
 event-step s (Elapsed ms) payload flash reply t size = waits t size ms refl refl
 
 -- Any step.
-pub step-of : (s : Session) (g : Given) → Step s g (exchange s g .left)
+pub step-of : (s : Session) (g : Given) → Case s g (exchange s g .left)
 unfolding stepOf
 step-of s g =
-    either-way (Step s g) (ltb (length (g .reply)) smallestReply) (λ r. refuses noRoom refl) (λ r.
-    either-way (Step s g) (eqb (length (g .flash)) (s .flash))
-    (λ f. either-way (Step s g) (takes s)
+    either-way (Case s g) (ltb (length (g .reply)) smallestReply) (λ r. refuses noRoom refl) (λ r.
+    either-way (Case s g) (eqb (length (g .flash)) (s .flash))
+    (λ f. either-way (Case s g) (takes s)
     (λ t. event-step s (g .event) (g .payload) (g .flash) (g .reply) t (eqb-true (length (g .flash)) (s .flash) f))
     (λ t. sleeps t refl))
     (λ f. refuses wrongLength refl))

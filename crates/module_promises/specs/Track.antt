@@ -25,7 +25,7 @@ use Rattle.module_model.specs.Outcomes.{Belongs, Expects, first, later, Accepte
 use Rattle.module_model.specs.Replies.{Quiet, Acknowledging}
 use Rattle.module_model.specs.Answers.{isRefused}
 use Rattle.module.specs.Session.{openingOf}
-use Rattle.module_promises.specs.Runs.{Given, Exchange, exchange, nextOf, afterOf, runOf, AllBytes, Says, payloadOf}
+use Rattle.module_promises.specs.Runs.{Given, Exchange, exchange, nextOf, afterOf, afterBy, runOf, runBy, AllBytes, Says, payloadOf}
 use Rattle.module_promises.specs.Said.{Declares, Acknowledges, Turn, quiet, declares, writes, again, heardOf, turn-of}
 use Rattle.module_promises.specs.Promises.{Opening, online, openedBy, LastParameters, Acknowledged, keptBy, NobodyElse, joined}
 use Rattle.module_model.specs.declared.phases.Transfer.{Transfer}
@@ -413,7 +413,7 @@ tracked-more history s g bytes h = go (turn-of s g bytes)
 -- A run behind a history.
 run-tracked : (history : List Exchange) (s : Session) (gs : List Given) → AllBytes gs → Tracked history (s .phase)
     → Tracked (history ++ runOf s gs) (afterOf s gs .phase)
-unfolding runOf afterOf
+unfolding runBy afterBy
 run-tracked history s [] bytes h = rw (append-nil history) h
 run-tracked history s (g ∷ gs) bytes h =
     rw (← append-assoc history (exchange s g ∷ []) (runOf (nextOf s g) gs))

@@ -12,10 +12,8 @@ use Rattle.module_model.specs.Phases.{openable, alive, closedArises}
 use Rattle.module.specs.Session.{session, stepped, openingOf, takes, arises}
 use Rattle.module.specs.Step.{Left, left, smallestReply, stepOf}
 use Rattle.module.specs.StepLaws.{step-no-room}
-use Rattle.module_promises.specs.Runs.{Given}
-use Rattle.module_promises.specs.Idle.{refused-leaves}
-use Rattle.module_promises.specs.Of.{Step}
-use Rattle.module_promises.specs.Promises.{online}
+use Rattle.module_promises.specs.Runs.{Step, Given}
+use Rattle.module_promises.specs.Promises.{online, RefusedLeavesOf}
 use Rattle.module_promises.specs.Arises.{opening-arises}
 use Rattle.module_model.specs.declared.phases.Phase.the-variants.{Closed, Ready}
 use Rattle.module_model.specs.declared.events.Event.{Event}
@@ -25,15 +23,6 @@ use Rattle.module.specs.declared.session.Session.{Session}
 use Rattle.module.specs.declared.session.Stepped.{Stepped}
 
 -- ---- a refused event leaves the sum
-
--- RefusedLeaves, of a step; it holds of ours.
-abbrev pub RefusedLeavesOf : Step → Type 0
-RefusedLeavesOf step =
-    (s : Session) (g : Given) (n : ℕ) → step s (g .event) (g .payload) (g .flash) (g .reply) .answer ≡ Refused n
-    → step s (g .event) (g .payload) (g .flash) (g .reply) ≡ left (stepped s (Refused n)) (g .flash) (g .reply)
-
-pub refused-leaves-of : RefusedLeavesOf stepOf
-refused-leaves-of = refused-leaves
 
 -- Our step, but an event refused with 2 sets the sum to 0.
 abbrev pub resetsRefused : Step

@@ -7,8 +7,8 @@ use lib.ListN.{getD}
 use Rattle.octets.specs.Octets.{laid}
 use Rattle.kinds.specs.declared.Kind.the-variants.{Upgrade}
 use Rattle.module.specs.Step.{stepOf}
-use Rattle.module_promises.specs.Runs.{Exchange}
-use Rattle.module_promises.specs.Of.{Step, CleanSucceedsOf}
+use Rattle.module_promises.specs.Runs.{Step, Exchange, carriedBy}
+use Rattle.module_promises.specs.Promises.{CleanSucceedsOf}
 use Rattle.module_promises.specs.Tiny.{flash, image, ready, tiny, ready-takes, tiny-fits, tiny-clean, lastOf, last-is}
 
 -- Our step, but the flash is handed back as lent.
@@ -20,7 +20,7 @@ abbrev flashOf : Exchange → List ℕ
 flashOf x = x .left .flash
 
 pub never-writes-refuted : CleanSucceedsOf neverWrites → ⊥
-unfolding laid
+unfolding laid carriedBy
 never-writes-refuted promise =
     let e = promise ready flash Upgrade image 4 tiny ready-takes refl tiny-fits tiny-clean in
     let same : flash ≡ image = ap (lastOf flashOf []) (e .split) ∙ last-is flashOf [] (e .before) (e .last) ∙ e .leaves in
