@@ -11,6 +11,7 @@ use Rattle.kinds.specs.declared.Kind.{Kind}
 use Rattle.kinds.specs.declared.Known.{Known}
 use Rattle.kinds.specs.declared.Known.the-variants.{Is, Unknown}
 use Rattle.commands.specs.Commands.{restartFrame}
+use Rattle.host_model.specs.Views.{failedPhase}
 use Rattle.host_model.specs.Waits.{wait}
 use Rattle.host_model.specs.Messages.{goesOut, messageOf}
 use Rattle.host_model.specs.Nexts.{resendNext, moveNext, timeNext, eventNext, planNext}
@@ -22,7 +23,7 @@ use Rattle.host_model.specs.declared.plan.Stage.{Stage}
 use Rattle.host_model.specs.declared.answers.Move.{Move}
 use Rattle.host_model.specs.declared.waits.Wait.{Wait}
 use Rattle.host_model.specs.declared.waits.Phase.{Phase}
-use Rattle.host_model.specs.declared.waits.Phase.the-variants.{Ended, Waiting}
+use Rattle.host_model.specs.declared.waits.Phase.the-variants.{Ended, EndedAt, Waiting}
 use Rattle.host_model.specs.declared.events.Event.{Event}
 use Rattle.host_model.specs.declared.events.Answer.{Answer}
 use Rattle.host_model.specs.declared.events.Answer.the-variants.{Nothing, Sent, Refused, Failed}
@@ -46,15 +47,18 @@ unfoldable pub sends : Session → Stepped → List ℕ → List ℕ → Left
 sends s next message output =
     cond (ltb (length output) (length message)) (left (stepped s (Refused noRoom)) output) (left next (over message output))
 
--- A session over an image that waits, and one that has ended.
+-- A session over an image that waits, one that has ended, and one that ends with the restart frame.
 abbrev pub waitingOf : ℕ → Plan → Stage → ℕ → ℕ → Session
 waitingOf image plan stage waited repeats = session image (Waiting (wait plan stage waited repeats))
 
 abbrev pub endedOf : ℕ → Session
 endedOf image = session image Ended
 
+abbrev pub failedOf : Session → ℕ → Session
+failedOf s image = session image (failedPhase (s .phase))
+
 -- What follows an event or an opening, performed: a message is sent, or none, and the session becomes what it then is. With 21 and 22
--- the restart frame is sent, the module's byte passed on, and the session ends.
+-- the restart frame is sent, the module's byte passed on, and the session ends, keeping the rate of that frame.
 abbrev pub performs : Session → Next → List ℕ → List ℕ → Left
 performs s Stays image output = left (stepped s Nothing) output
 performs s (Waits w) image output = left (stepped (session (length image) (Waiting w)) Nothing) output
@@ -63,7 +67,7 @@ performs s (Sends w) image output =
     (messageOf (w .plan) image (w .stage)) output
 performs s (Ends answer) image output = left (stepped (endedOf (length image)) answer) output
 performs s (Fails number passed) image output =
-    sends s (stepped (endedOf (length image)) (Failed number passed (length (goesOut restartFrame)))) (goesOut restartFrame) output
+    sends s (stepped (failedOf s (length image)) (Failed number passed (length (goesOut restartFrame)))) (goesOut restartFrame) output
 
 -- A stage is entered with its message, and a message sent again.
 abbrev pub enters : Session → Plan → Stage → List ℕ → List ℕ → Left
@@ -84,6 +88,7 @@ eventStep s w event bytes image output = performs s (eventNext w (length image) 
 
 abbrev pub phaseStep : Session → Phase → Event → List ℕ → List ℕ → List ℕ → Left
 phaseStep s Ended event bytes image output = left (stepped s Nothing) output
+phaseStep s (EndedAt kind rate) event bytes image output = left (stepped s Nothing) output
 phaseStep s (Waiting w) event bytes image output = eventStep s w event bytes image output
 
 -- Any event in any session: 3 for an image of another length; a session that has ended or could not arise answers nothing and is

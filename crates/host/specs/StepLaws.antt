@@ -2,22 +2,22 @@
 use Prim.Native.Nat.{ℕ, _≤_, _<_}
 use mathlib.Core.Bool.{Bool, true, false, cond}
 use mathlib.Core.List.{List}
-use mathlib.Core.Path.{_≡_, sym, ap, ap₂, _∙_}
+use mathlib.Core.Path.{_≡_, refl, sym, ap, ap₂, _∙_}
 use native.Mathlib.Omega.{arith}
 use borrow.Author.Tests.{eq-eqb, ne-eqb, lt-ltb, le-ltb}
 use lib.Dec.{ltb}
 use lib.ListN.{length}
-use Rattle.octets.specs.Choice.{cond-yes, cond-no}
+use Rattle.octets.specs.Choice.{cond-yes, cond-no, either-way}
 use Rattle.octets.specs.Octets.{over}
 use Rattle.refusals.specs.Refusals.{noRoom, wrongLength}
 use Rattle.refusals.specs.Written.{Out, refused, written, countOf, refusalOf}
 use Rattle.refusals.specs.declared.Written.{Written}
 use Rattle.refusals.specs.declared.Written.the-variants as writes
-use Rattle.host.specs.Session.{stepped, arises}
+use Rattle.host.specs.Session.{stepped, arises, takenPhase}
 use Rattle.host_model.specs.Waits.{waitFits, phaseArises}
 use Rattle.host_model.specs.Nexts.{eventNext}
 use Rattle.host_model.specs.Messages.{sentOf}
-use Rattle.host.specs.Step.{left, sends, performs, phaseStep, stepOf}
+use Rattle.host.specs.Step.{Left, left, sends, performs, phaseStep, stepOf}
 use Rattle.host_model.specs.declared.waits.Wait.{Wait}
 use Rattle.host_model.specs.declared.waits.Phase.{Phase}
 use Rattle.host_model.specs.declared.waits.Phase.the-variants.{Ended, Waiting}
@@ -104,12 +104,25 @@ module _ (s : Session) (w : Wait) (image : List ℕ) (same : length image ≡ s 
       → stepOf s e bytes image output ≡ left (stepped s Nothing) output
   step-never e bytes output h = step-not-arisen s e bytes image output same (waits-arise ∙ h)
 
--- An ended one answers nothing.
-pub step-ended : (s : Session) (e : Event) (bytes image output : List ℕ) → length image ≡ s .image → s .phase ≡ Ended
+-- One whose phase answers nothing does, whether or not it could arise.
+pub step-over : (s : Session) (e : Event) (bytes image output : List ℕ) → length image ≡ s .image → (phase : Phase) → s .phase ≡ phase
+    → phaseStep s phase e bytes image output ≡ left (stepped s Nothing) output
     → stepOf s e bytes image output ≡ left (stepped s Nothing) output
-unfolding arises
-step-ended s e bytes image output same told =
-    step-phase s e bytes image output same (ap (phaseArises (s .image)) told) Ended told
+unfolding stepOf
+step-over s e bytes image output same phase told none =
+    rw (eq-eqb (length image) (s .image) same)
+    (either-way (λ (x : Left). x ≡ left (stepped s Nothing) output) (arises s)
+    (λ _. ap (λ (p : Phase). phaseStep s p e bytes image output) told ∙ none) (λ _. refl))
+
+-- ---- how far a session is taken to be
+
+pub taken-arisen : (s : Session) → arises s ≡ true → s .phase ≡ takenPhase s
+unfolding takenPhase
+taken-arisen s h = sym (cond-yes _ _ _ h)
+
+pub taken-never : (s : Session) → arises s ≡ false → Ended ≡ takenPhase s
+unfolding takenPhase
+taken-never s h = sym (cond-no _ _ _ h)
 
 -- ---- room
 

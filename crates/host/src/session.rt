@@ -2,11 +2,11 @@
 ghost use mathlib.Core.Path.{_≡_};
 ghost use Rattle.host_model.specs.NextsLaws.{SmallNext};
 ghost use Rattle.host_model.specs.StagesLaws.{Small};
-ghost use Rattle.host_model.specs.Views.{phaseProgress, phaseRate, phaseRepeats};
+ghost use Rattle.host_model.specs.Views.{progressOf};
 ghost use Rattle.host_model.specs.declared.nexts.Next.the-variants.{Sends, Fails};
 ghost use Rattle.host_model.specs.declared.waits.Phase.the-variants.{Waiting};
-ghost use Rattle.host.specs.Session.{session, stepped, arises};
-ghost use Rattle.host.specs.Step.{left, endedOf, performs, stepOf, openingOf};
+ghost use Rattle.host.specs.Session.{session, stepped, arises, takenPhase, sessionProgress, sessionRate, sessionRepeats};
+ghost use Rattle.host.specs.Step.{left, endedOf, failedOf, performs, stepOf, openingOf};
 use crate::messages::send;
 use crate::messages::send_restart;
 use host_model::Answer;
@@ -77,6 +77,7 @@ impl Session {
         let phase = self.phase;
         match phase {
             Phase::Ended => self.answers(Answer::Nothing),
+            Phase::EndedAt { .. } => self.answers(Answer::Nothing),
             Phase::Waiting(wait) => {
                 if !waits::wait_fits(image.len(), wait) {
                     return self.answers(Answer::Nothing);
@@ -89,14 +90,12 @@ impl Session {
 
     // Packets accepted and in all.
     pub fn progress(self) -> Progress
-        ensures { λ r. ⌜ r ≡ phaseProgress (self .phase) (self .image) ⌝ }
+        ensures { λ r. ⌜ r ≡ sessionProgress self ⌝ }
     {
-        let phase = self.phase;
+        let phase = self.taken();
         match phase {
-            Phase::Ended => Progress {
-                accepted: 0,
-                total: 0,
-            },
+            Phase::Ended => none(),
+            Phase::EndedAt { .. } => none(),
             Phase::Waiting(wait) => {
                 let stage = wait.stage;
                 waits::stage_progress(stage, self.image)
@@ -106,11 +105,12 @@ impl Session {
 
     // The rate that the line should have now.
     pub fn line_rate(self) -> LineRate
-        ensures { λ r. ⌜ r ≡ phaseRate (self .phase) ⌝ }
+        ensures { λ r. ⌜ r ≡ sessionRate self ⌝ }
     {
-        let phase = self.phase;
+        let phase = self.taken();
         match phase {
             Phase::Ended => LineRate::AsItWas,
+            Phase::EndedAt { kind, rate } => LineRate::Agreed(rate),
             Phase::Waiting(wait) => {
                 let stage = wait.stage;
                 waits::stage_rate(stage)
@@ -120,11 +120,12 @@ impl Session {
 
     // How often the message under way was resent.
     pub fn resent(self) -> u32
-        ensures { λ r. ⌜ r ≡ phaseRepeats (self .phase) ⌝ }
+        ensures { λ r. ⌜ r ≡ sessionRepeats self ⌝ }
     {
-        let phase = self.phase;
+        let phase = self.taken();
         match phase {
             Phase::Ended => 0,
+            Phase::EndedAt { .. } => 0,
             Phase::Waiting(wait) => wait.repeats,
         }
     }
@@ -136,8 +137,19 @@ impl Session {
         let phase = self.phase;
         match phase {
             Phase::Ended => true,
+            Phase::EndedAt { kind, rate } => waits::loadable(kind, self.image),
             Phase::Waiting(wait) => waits::wait_fits(self.image, wait),
         }
+    }
+
+    // How far the session is taken to be.
+    fn taken(self) -> Phase
+        ensures { λ r. ⌜ r ≡ takenPhase self ⌝ }
+    {
+        if !self.can_arise() {
+            return Phase::Ended;
+        }
+        self.phase
     }
 
     // What follows is done.
@@ -174,12 +186,24 @@ impl Session {
     {
         let sent = send_restart(out);
         match sent {
-            Written::Count(n) => over(image.len()).answers(Answer::Failed {
+            Written::Count(n) => self.failed(image.len()).answers(Answer::Failed {
                 number: number,
                 passed: passed,
                 count: n,
             }),
             Written::Refused(none) => self.answers(Answer::Refused(none)),
+        }
+    }
+
+    // The session as it ends with the restart frame.
+    fn failed(self, image: usize) -> Session
+        ensures { λ r. ⌜ r ≡ failedOf self image ⌝ }
+    {
+        let phase = self.phase;
+        let ended = waits::failed_phase(phase);
+        Session {
+            image: image,
+            phase: ended,
         }
     }
 
@@ -190,6 +214,15 @@ impl Session {
             session: self,
             answer: answer,
         }
+    }
+}
+
+fn none() -> Progress
+    ensures { λ r. ⌜ r ≡ progressOf 0 0 ⌝ }
+{
+    Progress {
+        accepted: 0,
+        total: 0,
     }
 }
 

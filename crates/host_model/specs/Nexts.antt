@@ -49,4 +49,4 @@ eventNext w image (Elapsed ms) bytes = timeNext w ms
 -- An opening: 8 for an image that cannot be loaded, else the first stage.
 unfoldable pub planNext : Plan → ℕ → Next
 planNext plan image =
-    cond (loadable plan image) (Sends (wait plan (firstStage (plan .start) (plan .first)) 0 0)) (Ends (Refused wrongImageLength))
+    cond (loadable (plan .kind) image) (Sends (wait plan (firstStage (plan .start) (plan .first)) 0 0)) (Ends (Refused wrongImageLength))

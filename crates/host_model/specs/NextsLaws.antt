@@ -48,12 +48,12 @@ time-up w ms h = cond-no _ _ _ (le-ltb ms (limitOf (w .stage) - w .waited) (omeg
 -- ---- the opening
 
 -- An image that can be loaded begins at the first stage, any other is refused with 8.
-pub plan-begins : (plan : Plan) (image : ℕ) → loadable plan image ≡ true
+pub plan-begins : (plan : Plan) (image : ℕ) → loadable (plan .kind) image ≡ true
     → planNext plan image ≡ Sends (wait plan (firstStage (plan .start) (plan .first)) 0 0)
 unfolding planNext
 plan-begins plan image h = cond-yes _ _ _ h
 
-pub plan-refused : (plan : Plan) (image : ℕ) → loadable plan image ≡ false → planNext plan image ≡ Ends (Refused wrongImageLength)
+pub plan-refused : (plan : Plan) (image : ℕ) → loadable (plan .kind) image ≡ false → planNext plan image ≡ Ends (Refused wrongImageLength)
 unfolding planNext
 plan-refused plan image h = cond-no _ _ _ h
 
@@ -97,7 +97,7 @@ event-small w image (Elapsed ms) bytes h = time-small w ms (wait-small image w h
 
 pub plan-small : (plan : Plan) (image : ℕ) → SmallNext (planNext plan image)
 unfolding planNext
-plan-small plan image = either-way SmallNext (loadable plan image) (λ _. first-small (plan .start) (plan .first)) (λ _. tt)
+plan-small plan image = either-way SmallNext (loadable (plan .kind) image) (λ _. first-small (plan .start) (plan .first)) (λ _. tt)
 
 -- What follows is small whatever name it has.
 pub small-next-same : (next told : Next) → next ≡ told → SmallNext next → SmallNext told

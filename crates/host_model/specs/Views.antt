@@ -1,10 +1,11 @@
 -- What a caller reads from a session.
 use Prim.Native.Nat.{ℕ, _-_}
+use Rattle.kinds.specs.declared.Kind.{Kind}
 use Rattle.pieces.specs.Pieces.{countOf}
 use Rattle.host_model.specs.declared.plan.Stage.{Stage}
 use Rattle.host_model.specs.declared.plan.Stage.the-variants.{Text, Asking, Declaring, Sending, Noticing, Restarting}
 use Rattle.host_model.specs.declared.waits.Phase.{Phase}
-use Rattle.host_model.specs.declared.waits.Phase.the-variants.{Ended, Waiting}
+use Rattle.host_model.specs.declared.waits.Phase.the-variants.{Ended, EndedAt, Waiting}
 use Rattle.host_model.specs.declared.views.Progress.{Progress}
 use Rattle.host_model.specs.declared.views.LineRate.{LineRate}
 use Rattle.host_model.specs.declared.views.LineRate.the-variants.{AsItWas, Agreed}
@@ -20,9 +21,10 @@ stageProgress (Sending rate size number) image = progressOf (number - 1) (countO
 stageProgress (Noticing rate size) image = progressOf (countOf image size) (countOf image size)
 stageProgress (Restarting rate size) image = progressOf (countOf image size) (countOf image size)
 
--- Packets accepted and in all; an ended session, or one that could not arise, has none.
+-- Packets accepted and in all; an ended session has none.
 abbrev pub phaseProgress : Phase → ℕ → Progress
 phaseProgress Ended image = progressOf 0 0
+phaseProgress (EndedAt kind rate) image = progressOf 0 0
 phaseProgress (Waiting w) image = stageProgress (w .stage) image
 
 -- The rate that the line should have: the agreed one from the parameters on.
@@ -36,9 +38,22 @@ stageRate (Restarting rate size) = Agreed rate
 
 abbrev pub phaseRate : Phase → LineRate
 phaseRate Ended = AsItWas
+phaseRate (EndedAt kind rate) = Agreed rate
 phaseRate (Waiting w) = stageRate (w .stage)
+
+-- How a load ends whose restart frame is sent with 21 or 22: that frame goes out at the rate that the line has, and the ended session
+-- keeps it.
+abbrev pub endedWith : Kind → LineRate → Phase
+endedWith kind AsItWas = Ended
+endedWith kind (Agreed rate) = EndedAt kind rate
+
+abbrev pub failedPhase : Phase → Phase
+failedPhase Ended = Ended
+failedPhase (EndedAt kind rate) = EndedAt kind rate
+failedPhase (Waiting w) = endedWith (w .plan .kind) (stageRate (w .stage))
 
 -- How often the frame under way was resent.
 abbrev pub phaseRepeats : Phase → ℕ
 phaseRepeats Ended = 0
+phaseRepeats (EndedAt kind rate) = 0
 phaseRepeats (Waiting w) = w .repeats

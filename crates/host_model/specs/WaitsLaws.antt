@@ -45,7 +45,7 @@ limit-within (Restarting rate size) = omega arith
 
 -- Its image can be loaded, it has waited less than the limit and resent at most 3 times, and its stage fits.
 pub record WaitOf (image : ℕ) (w : Wait) : Type 0 where
-  pub fitting : loadable (w .plan) image ≡ true
+  pub fitting : loadable (w .plan .kind) image ≡ true
   pub short : w .waited < limitOf (w .stage)
   pub few : w .repeats ≤ mostRepeats
   pub staged : stageFits (w .plan) image (w .stage) ≡ true
@@ -54,7 +54,7 @@ pub record WaitOf (image : ℕ) (w : Wait) : Type 0 where
 pub wait-facts : (image : ℕ) (w : Wait) → waitFits image w ≡ true → WaitOf image w
 unfolding waitFits
 wait-facts image w h =
-    let first = both (loadable (w .plan) image) _ h in
+    let first = both (loadable (w .plan .kind) image) _ h in
     let second = both (ltb (w .waited) (limitOf (w .stage))) _ (first .1) in
     let third = both (leb (w .repeats) mostRepeats) _ (second .1) in
     record {
@@ -78,7 +78,7 @@ pub wait-no : (image : ℕ) (w : Wait) → (WaitOf image w → ⊥) → waitFits
 wait-no image w h = not-eq-not .0 (λ e. h (wait-facts image w e))
 
 -- Of one whose numbers are within their bounds the stage decides.
-pub wait-stage : (image : ℕ) (w : Wait) → loadable (w .plan) image ≡ true → w .waited < limitOf (w .stage)
+pub wait-stage : (image : ℕ) (w : Wait) → loadable (w .plan .kind) image ≡ true → w .waited < limitOf (w .stage)
     → w .repeats ≤ mostRepeats → waitFits image w ≡ stageFits (w .plan) image (w .stage)
 unfolding waitFits
 wait-stage image w fitting short few =

@@ -139,7 +139,7 @@ step-arises s g a =
 plan-arises : (plan : Plan) (image output : List ℕ) → Arisen (planOpening plan image output)
 unfolding planNext
 plan-arises plan image output =
-    either-way (λ (n : Next). Arisen (performs (endedOf (length image)) n image output)) (loadable plan (length image))
+    either-way (λ (n : Next). Arisen (performs (endedOf (length image)) n image output)) (loadable (plan .kind) (length image))
     (λ fitting. enters-arises _ plan _ image output (ended-arises (length image)) fitting
     (first-fits plan (length image) (plan .start) refl))
     (λ _. ended-arises (length image))

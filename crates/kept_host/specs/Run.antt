@@ -111,7 +111,7 @@ known-real : (known : Known) (w : Wishes) (image output : List ℕ) → length i
     → RealLeft (knownOpening known w image output)
 unfolding planNext
 known-real (Is kind) w image output short wish =
-    either-way (λ (n : Next). RealLeft (performs (endedOf (length image)) n image output)) (loadable (planOf kind w) (length image))
+    either-way (λ (n : Next). RealLeft (performs (endedOf (length image)) n image output)) (loadable kind (length image))
     (λ _. sends-real _ _ _ output (ended-real (length image) short) (record { image-real = short; wish-real = wish }))
     (λ _. ended-real (length image) short)
 known-real Unknown w image output short wish = ended-real (length image) short

@@ -188,7 +188,7 @@ module _ (kind : Kind) (w : Wishes) (image before : List ℕ) where
         let stands : Next → Type 0 = λ n.
         let x = performs (endedOf (length image)) n image output in
         arises (x .session) ≡ true → Stand kind w image before (joined x s before) in
-        either-way stands (loadable (planOf kind w) (length image))
+        either-way stands (loadable kind (length image))
         (λ fits.
         let stage = firstStage (w .start) (w .first) in
         let message : List ℕ = messageOf (planOf kind w) image stage in

@@ -93,7 +93,8 @@ pub fn plan_next(plan: Plan, image: usize) -> Next
 {
     let start = plan.start;
     let first = plan.first;
-    if !loadable(plan, image) {
+    let kind = plan.kind;
+    if !loadable(kind, image) {
         return Next::Ends(Answer::Refused(refusals::WRONG_IMAGE_LENGTH));
     }
     Next::Sends(waiting(plan, first_stage(start, first), 0, 0))

@@ -6,6 +6,7 @@ use host_model::Rate;
 use host_model::Stage;
 use host_model::Start;
 use host_model::Wait;
+use kinds::Kind;
 
 // Milliseconds for an answer, and for the notice.
 const ANSWER_LIMIT: u32 = 1000;
@@ -21,7 +22,8 @@ pub fn wait_fits(image: usize, wait: Wait) -> bool
 {
     let plan = wait.plan;
     let stage = wait.stage;
-    if !loadable(plan, image) {
+    let kind = plan.kind;
+    if !loadable(kind, image) {
         return false;
     }
     if limit(stage) <= wait.waited {
@@ -34,10 +36,9 @@ pub fn wait_fits(image: usize, wait: Wait) -> bool
 }
 
 // What can be loaded.
-pub(crate) fn loadable(plan: Plan, image: usize) -> bool
-    ensures { λ r. ⌜ r ≡ loadable plan image ⌝ }
+pub fn loadable(kind: Kind, image: usize) -> bool
+    ensures { λ r. ⌜ r ≡ loadable kind image ⌝ }
 {
-    let kind = plan.kind;
     kinds::fits_file(kind, image)
 }
 

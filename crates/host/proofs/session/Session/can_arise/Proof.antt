@@ -1,4 +1,4 @@
--- `Session::can_arise`: an ended session always, a waiting one by its numbers.
+-- `Session::can_arise`: an ended session always, one ended at a rate by its image, a waiting one by its numbers.
 use borrow.Author.Needs.{needs}
 use mathlib.Core.Path.{sym, ap, _∙_}
 use Rattle.host_model.specs.Waits.{phaseArises}
@@ -12,19 +12,39 @@ enum-told c = search needs
 enum-known-phase : tie.Need-enum-known-phase
 enum-known-phase c = search needs
 
+loadable-requires : tie.Need-loadable-requires
+loadable-requires c κs = search needs
+
+enum-known-phase-2 : tie.Need-enum-known-phase-2
+enum-known-phase-2 c = search needs
+
 wait-fits-requires : tie.Need-wait-fits-requires
 wait-fits-requires c κs = search needs
 
 returns : tie.Need-returns
 unfolding arises
-returns c = sym (ap (phaseArises (c .before .before .args .self .image)) (c .enum-told .given .1))
+returns c =
+    sym (ap (phaseArises (c .before .before .args .self .image)) (c .enum-told .given .1))
 
 returns-2 : tie.Need-returns-2
 unfolding arises
 returns-2 c =
-    let a = c .before .before .before .before .args in
-    c .wait-fits .ensures ∙ sym (ap (phaseArises (a .self .image)) (c .before .before .phase .given .1))
+    c .loadable .ensures ∙ sym (ap (phaseArises (c .before .before .before .before .args .self .image)) (c .before .before .phase .given .1))
+
+returns-3 : tie.Need-returns-3
+unfolding arises
+returns-3 c =
+    c .wait-fits .ensures ∙ sym (ap (phaseArises (c .before .before .before .before .args .self .image)) (c .before .before .phase2 .given .1))
 
 pub can-arise-spec : {M : Type 1} → statement M
 can-arise-spec =
-    tie.close (tie.spec enum-told enum-known-phase wait-fits-requires returns returns-2)
+    tie.close
+    (tie.spec
+    enum-told
+    enum-known-phase
+    loadable-requires
+    enum-known-phase-2
+    wait-fits-requires
+    returns
+    returns-2
+    returns-3)

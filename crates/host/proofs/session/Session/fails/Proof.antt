@@ -6,7 +6,7 @@ use Rattle.commands.specs.Commands.{restartFrame}
 use Rattle.host_model.specs.Messages.{goesOut}
 use Rattle.host_model.specs.declared.events.Answer.the-variants.{Failed}
 use Rattle.host.specs.Session.{stepped}
-use Rattle.host.specs.Step.{left, endedOf}
+use Rattle.host.specs.Step.{left, failedOf}
 use Rattle.host.specs.StepLaws.{sends-counted, sends-refused}
 use Rattle.host.proofs.session.Session.fails.Statement.{statement}
 use Rattle.host.proofs.session.Session.fails.Tie as tie
@@ -17,8 +17,8 @@ send-restart-requires c κs = search needs
 enum-known-sent : tie.Need-enum-known-sent
 enum-known-sent c = search needs
 
-over-requires : tie.Need-over-requires
-over-requires c κs = search needs
+failed-requires : tie.Need-failed-requires
+failed-requires c κs = search needs
 
 answers-requires : tie.Need-answers-requires
 answers-requires c κs = search needs
@@ -38,9 +38,9 @@ returns c =
     let sent = c .before .before .before .before .before .before .before .send-restart in
     let told = c .before .before .before .sent .given in
     ap (λ x. left x (sent .last .0)) (c .answers .ensures)
-    ∙ ap (λ s. left (stepped s (Failed (a .number) (a .passed) (told .0 .0))) (sent .last .0)) (c .before .over .ensures)
+    ∙ ap (λ s. left (stepped s (Failed (a .number) (a .passed) (told .0 .0))) (sent .last .0)) (c .before .failed .ensures)
     ∙ sends-counted (a .self) (goesOut restartFrame) (a .out .now) (sent .result) (sent .last .0) (sent .ensures)
-    (λ n. stepped (endedOf (length (a .image .now))) (Failed (a .number) (a .passed) n)) _ (told .1)
+    (λ n. stepped (failedOf (a .self) (length (a .image .now))) (Failed (a .number) (a .passed) n)) _ (told .1)
 
 same-length-2 : tie.Need-same-length-2
 same-length-2 c = search needs
@@ -59,7 +59,7 @@ fails-spec =
     (tie.spec
     send-restart-requires
     enum-known-sent
-    over-requires
+    failed-requires
     answers-requires
     enum-known-sent-2
     answers-requires-2

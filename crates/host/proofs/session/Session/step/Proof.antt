@@ -1,11 +1,11 @@
 -- `Session::step`: 3, then the phase, then whether its numbers could arise.
 use borrow.Author.Needs.{needs}
-use mathlib.Core.Path.{sym, ap, _∙_}
+use mathlib.Core.Path.{refl, sym, ap, _∙_}
 use lib.ListN.{length}
 use Rattle.octets.specs.Choice.{passed, failed}
 use Rattle.host_model.specs.NextsLaws.{event-small, small-next-same}
 use Rattle.host.specs.Step.{left, performs}
-use Rattle.host.specs.StepLaws.{step-wrong-length, step-never, step-ended, step-waits}
+use Rattle.host.specs.StepLaws.{step-wrong-length, step-never, step-over, step-waits}
 use Rattle.host.proofs.session.Session.step.Statement.{statement}
 use Rattle.host.proofs.session.Session.step.Tie as tie
 
@@ -24,21 +24,27 @@ enum-told c = search needs
 answers-requires-2 : tie.Need-answers-requires-2
 answers-requires-2 c κs = search needs
 
+enum-told-2 : tie.Need-enum-told-2
+enum-told-2 c = search needs
+
+answers-requires-3 : tie.Need-answers-requires-3
+answers-requires-3 c κs = search needs
+
 enum-known-phase : tie.Need-enum-known-phase
 enum-known-phase c = search needs
 
 wait-fits-requires : tie.Need-wait-fits-requires
 wait-fits-requires c κs = search needs
 
-answers-requires-3 : tie.Need-answers-requires-3
-answers-requires-3 c κs = search needs
+answers-requires-4 : tie.Need-answers-requires-4
+answers-requires-4 c κs = search needs
 
 returns-2 : tie.Need-returns-2
 returns-2 c =
     let a = c .before .before .before .before .before .before .before .before .before .before .before .args in
     let told = c .before .before .before .before .phase .given in
     let never = failed (c .before .before .wait-fits .ensures) (c .before .if2 .taken) in
-    ap (λ x. left x (a .out .now)) (c .answers3 .ensures)
+    ap (λ x. left x (a .out .now)) (c .answers4 .ensures)
     ∙ sym (step-never (a .self) (told .0 .0) (a .image .now) (c .before .before .before .before .before .before .if1 .left) (told .1) (a .event) (a .bytes .now) (a .out .now) never)
 
 event-next-requires : tie.Need-event-next-requires
@@ -57,14 +63,22 @@ returns-3 c =
     let a = c .before .before .before .before .before .before .before .before .args in
     ap (λ x. left x (a .out .now)) (c .answers2 .ensures)
     ∙ sym
-    (step-ended (a .self) (a .event) (a .bytes .now) (a .image .now) (a .out .now) (c .before .before .before .if1 .left)
-    (c .before .enum-told .given .1))
+    (step-over (a .self) (a .event) (a .bytes .now) (a .image .now) (a .out .now) (c .before .before .before .if1 .left) _
+    (c .before .enum-told .given .1) refl)
+
+returns-4 : tie.Need-returns-4
+returns-4 c =
+    let a = c .before .before .before .before .before .before .before .before .args in
+    ap (λ x. left x (a .out .now)) (c .answers3 .ensures)
+    ∙ sym
+    (step-over (a .self) (a .event) (a .bytes .now) (a .image .now) (a .out .now) (c .before .before .before .if1 .left) _
+    (c .before .enum-told2 .given .1) refl)
 
 same-length : tie.Need-same-length
 same-length c = search needs
 
-returns-4 : tie.Need-returns-4
-returns-4 c =
+returns-5 : tie.Need-returns-5
+returns-5 c =
     let a = c .before .before .before .before .before .before .before .before .before .before .before .before .before .before .before .args in
     let told = c .before .before .before .before .before .before .before .before .phase .given in
     let fits = passed (c .before .before .before .before .before .before .wait-fits .ensures) (c .before .before .before .before .before .if2 .left) in
@@ -80,12 +94,15 @@ step-spec =
     returns
     enum-told
     answers-requires-2
+    enum-told-2
+    answers-requires-3
     enum-known-phase
     wait-fits-requires
-    answers-requires-3
+    answers-requires-4
     returns-2
     event-next-requires
     performs-requires
     returns-3
+    returns-4
     same-length
-    returns-4)
+    returns-5)
