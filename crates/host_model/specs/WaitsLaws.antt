@@ -2,24 +2,30 @@
 use Prim.Native.Nat.{ℕ, _≤_, _<_}
 use mathlib.Core.Bool.{true, false, not-eq-not}
 use mathlib.Core.List.{List}
-use mathlib.Core.Path.{_≡_}
+use mathlib.Core.Path.{_≡_, refl}
 use native.Mathlib.Omega.{arith}
 use borrow.Author.Tests.{leb-true, le-leb, ltb-true, lt-ltb}
 use lib.Dec.{ltb, leb}
 use Rattle.octets.specs.Choice.{both}
 use Rattle.kinds.specs.KindsLaws.{file-some}
+use Rattle.kinds.specs.declared.Kind.{Kind}
 use Rattle.host_model.specs.Stages.{stageFits}
 use Rattle.host_model.specs.Answers.{frameMove, lineMove}
 use Rattle.host_model.specs.StagesLaws.{Small, SmallMove, facts-rate, stage-small}
 use Rattle.host_model.specs.Moves.{fits-frame, fits-line, fits-small}
-use Rattle.host_model.specs.Waits.{mostRepeats, limitOf, firstStage, loadable, waitFits}
+use Rattle.host_model.specs.Views.{stageRate, endedWith, failedPhase}
+use Rattle.host_model.specs.Waits.{mostRepeats, limitOf, firstStage, loadable, waitFits, phaseArises}
 use Rattle.host_model.specs.declared.plan.Rate.{Rate}
 use Rattle.host_model.specs.declared.plan.Plan.{Plan}
 use Rattle.host_model.specs.declared.plan.Stage.{Stage}
 use Rattle.host_model.specs.declared.plan.Stage.the-variants.{Text, Asking, Declaring, Sending, Noticing, Restarting}
 use Rattle.host_model.specs.declared.plan.Start.{Start}
 use Rattle.host_model.specs.declared.plan.Start.the-variants.{WithText, AtOnce}
+use Rattle.host_model.specs.declared.views.LineRate.{LineRate}
+use Rattle.host_model.specs.declared.views.LineRate.the-variants.{AsItWas, Agreed}
 use Rattle.host_model.specs.declared.waits.Wait.{Wait}
+use Rattle.host_model.specs.declared.waits.Phase.{Phase}
+use Rattle.host_model.specs.declared.waits.Phase.the-variants.{Ended, EndedAt, Waiting}
 
 -- A session begins at a small stage.
 pub first-small : (start : Start) (rate : Rate) → Small (firstStage start rate)
@@ -103,3 +109,13 @@ wait-frame image w command payload h =
 pub wait-line : (image : ℕ) (w : Wait) (line : List ℕ) → waitFits image w ≡ true → SmallMove (lineMove (w .plan) (w .stage) line)
 wait-line image w line h =
     fits-small (w .plan) image (lineMove (w .plan) (w .stage) line) (fits-line (w .plan) image (w .stage) line)
+
+-- A load that fails in a phase that could arise leaves one that could.
+with-arises : (image : ℕ) (kind : Kind) (line : LineRate) → loadable kind image ≡ true → phaseArises image (endedWith kind line) ≡ true
+with-arises image kind AsItWas h = refl
+with-arises image kind (Agreed rate) h = h
+
+pub failed-arises : (image : ℕ) (phase : Phase) → phaseArises image phase ≡ true → phaseArises image (failedPhase phase) ≡ true
+failed-arises image Ended h = h
+failed-arises image (EndedAt kind rate) h = h
+failed-arises image (Waiting w) h = with-arises image (w .plan .kind) (stageRate (w .stage)) (wait-facts image w h .fitting)

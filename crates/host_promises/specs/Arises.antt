@@ -13,10 +13,11 @@ use Rattle.kinds.specs.KindsLaws.{file-some}
 use Rattle.kinds.specs.declared.Known.{Known}
 use Rattle.kinds.specs.declared.Known.the-variants.{Is, Unknown}
 use Rattle.host_model.specs.Stages.{stageFits}
+use Rattle.host_model.specs.Views.{failedPhase}
 use Rattle.host_model.specs.Waits.{mostRepeats, limitOf, loadable}
 use Rattle.host_model.specs.Nexts.{resendNext, timeNext, planNext}
 use Rattle.host.specs.Session.{session, arises}
-use Rattle.host_model.specs.WaitsLaws.{first-fits, limit-within, WaitOf, wait-facts, facts-wait}
+use Rattle.host_model.specs.WaitsLaws.{first-fits, limit-within, WaitOf, wait-facts, facts-wait, failed-arises}
 use Rattle.host_model.specs.Answers.{frameMove, lineMove}
 use Rattle.host_model.specs.Moves.{FitsMove, fits-frame, fits-line}
 use Rattle.host.specs.Step.{Left, Wishes, sends, waitingOf, endedOf, performs, enters, resends, moved, timeStep, eventStep, phaseStep, stepOf}
@@ -28,7 +29,7 @@ use Rattle.host_model.specs.declared.plan.Stage.{Stage}
 use Rattle.host_model.specs.declared.nexts.Next.{Next}
 use Rattle.host_model.specs.declared.waits.Wait.{Wait}
 use Rattle.host_model.specs.declared.waits.Phase.{Phase}
-use Rattle.host_model.specs.declared.waits.Phase.the-variants.{Ended, Waiting}
+use Rattle.host_model.specs.declared.waits.Phase.the-variants.{Ended, EndedAt, Waiting}
 use Rattle.host.specs.declared.session.Session.{Session}
 use Rattle.host_model.specs.declared.events.Event.{Event}
 use Rattle.host_model.specs.declared.events.Event.the-variants.{Frame, Line, Elapsed}
@@ -51,6 +52,11 @@ arises-wait image w h = wait-facts image w h
 pub ended-arises : (image : ℕ) → arises (session image Ended) ≡ true
 unfolding arises
 ended-arises image = refl
+
+-- So does a load that fails.
+failure-arises : (image : ℕ) (phase : Phase) → arises (session image phase) ≡ true → arises (session image (failedPhase phase)) ≡ true
+unfolding arises
+failure-arises image phase h = failed-arises image phase h
 
 -- What a call leaves is a session that arises.
 abbrev Arisen : Left → Type 0
@@ -77,7 +83,8 @@ enters-arises s plan stage image output a fitting staged =
     sends-arises s _ _ output a (stage-arises (length image) plan stage 0 0 fitting (limit-within stage .0) (omega arith) staged)
 
 -- From a session that waits: a message sent again, a move, time.
-module _ (s : Session) (w : Wait) (image output : List ℕ) (a : arises s ≡ true) (f : WaitOf (length image) w) where
+module _ (s : Session) (w : Wait) (image output : List ℕ) (a : arises s ≡ true) (f : WaitOf (length image) w)
+    (own : arises (session (length image) (s .phase)) ≡ true) where
   resends-arises : Arisen (resends s w image output)
   unfolding resendNext
   resends-arises =
@@ -94,7 +101,7 @@ module _ (s : Session) (w : Wait) (image output : List ℕ) (a : arises s ≡ tr
   moved-arises (Enter next) h = enters-arises s (w .plan) next image output a (f .fitting) h
   moved-arises (Await next) h = stage-arises (length image) (w .plan) next 0 (w .repeats) (f .fitting) (limit-within next .0) (f .few) h
   moved-arises Resend h = resends-arises
-  moved-arises (Refuse number passed) h = sends-arises s _ _ output a (ended-arises (length image))
+  moved-arises (Refuse number passed) h = sends-arises s _ _ output a (failure-arises (length image) (s .phase) own)
   moved-arises TooMany h = ended-arises (length image)
   moved-arises Finish h = ended-arises (length image)
 
@@ -119,9 +126,12 @@ module _ (s : Session) (w : Wait) (image output : List ℕ) (a : arises s ≡ tr
 
 -- A step in either phase.
 phase-arises : (s : Session) (phase : Phase) (event : Event) (bytes image output : List ℕ) → arises s ≡ true
-    → arises (session (length image) phase) ≡ true → Arisen (phaseStep s phase event bytes image output)
-phase-arises s Ended event bytes image output a h = a
-phase-arises s (Waiting w) event bytes image output a h = event-arises s w image output a (arises-wait (length image) w h) event bytes
+    → arises (session (length image) (s .phase)) ≡ true → arises (session (length image) phase) ≡ true
+    → Arisen (phaseStep s phase event bytes image output)
+phase-arises s Ended event bytes image output a own h = a
+phase-arises s (EndedAt kind rate) event bytes image output a own h = a
+phase-arises s (Waiting w) event bytes image output a own h =
+    event-arises s w image output a (arises-wait (length image) w h) own event bytes
 
 -- Any step of a session that arises.
 pub step-arises : (s : Session) (g : Given) → arises s ≡ true → arises (leaves s g .session) ≡ true
@@ -129,7 +139,9 @@ unfolding stepOf
 step-arises s g a =
     either-way Arisen (eqb (length (g .image)) (s .image))
     (λ e. either-way Arisen (arises s)
-    (λ _. phase-arises s (s .phase) (g .event) (g .bytes) (g .image) (g .output) a (rw (eqb-true (length (g .image)) (s .image) e) a))
+    (λ _.
+    let own : arises (session (length (g .image)) (s .phase)) ≡ true = rw (eqb-true (length (g .image)) (s .image) e) a in
+    phase-arises s (s .phase) (g .event) (g .bytes) (g .image) (g .output) a own own)
     (λ _. a))
     (λ _. a)
 

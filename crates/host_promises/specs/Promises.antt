@@ -14,8 +14,9 @@ use Rattle.commands.specs.Commands.{rateReply, parametersReply, packetReply, re
 use Rattle.commands.specs.Commands.{rateFrame, parametersFrame, packetFrame, restartFrame}
 use Rattle.refusals.specs.Refusals.{noRoom, wrongPieces, noAnswer, moduleRefused, badNotice}
 use Rattle.host_model.specs.Stages.{numberOfRate}
+use Rattle.host_model.specs.Views.{stageRate, endedWith}
 use Rattle.host_model.specs.Waits.{limitOf}
-use Rattle.host.specs.Session.{stepped, arises}
+use Rattle.host.specs.Session.{session, stepped, arises}
 use Rattle.commands.specs.Commands.{startText, startAnswer}
 use Rattle.host_model.specs.Messages.{messageOf}
 use Rattle.host_model.specs.Answers.{pieceSize, sizeMove}
@@ -131,15 +132,16 @@ pub record Awaits (s : Session) (w : Wait) (g : Given) : Type 0 where
   pub same-length : length (g .image) ≡ s .image
   pub all-bytes : Bytes (g .bytes)
 
--- What a step sends, and the session after it: the message again, the next message, or the restart frame of a load that failed.
+-- What a step sends, and the session after it: the message again, the next message, or the restart frame of a load that failed; that
+-- one has ended, and keeps the rate at which this frame goes out.
 pub data Message (w : Wait) (g : Given) (message : List ℕ) (next : Session) (answer : Answer) : Type 0 where
   again : Due w g → w .repeats < 3 → message ≡ messageOf (w .plan) (g .image) (w .stage)
       → next ≡ waitingOf (length (g .image)) (w .plan) (w .stage) 0 (w .repeats + 1) → answer ≡ Sent (length message)
       → Message w g message next answer
   onward : (stage : Stage) → Follows (w .plan) (length (g .image)) g (w .stage) stage → message ≡ messageOf (w .plan) (g .image) stage
       → next ≡ waitingOf (length (g .image)) (w .plan) stage 0 0 → answer ≡ Sent (length message) → Message w g message next answer
-  restart : (number passed : ℕ) → RefusedBy w g number passed → message ≡ wireOf restartFrame → next ≡ endedOf (length (g .image))
-      → answer ≡ Failed number passed (length message) → Message w g message next answer
+  restart : (number passed : ℕ) → RefusedBy w g number passed → message ≡ wireOf restartFrame
+      → next ≡ session (length (g .image)) (endedWith (w .plan .kind) (stageRate (w .stage))) → answer ≡ Failed number passed (length message) → Message w g message next answer
 
 -- What a step is.
 pub data Turn (s : Session) (w : Wait) (g : Given) (x : Left) : Type 0 where

@@ -14,10 +14,13 @@ use Rattle.octets.specs.Octets.{Bytes, spelled}
 use Rattle.octets.specs.Lists.{bytes-append, bytes-replicate, bytes-spelled}
 use Rattle.kinds.specs.Kinds.{kindOf, numberOf, fitsFile}
 use Rattle.kinds.specs.KindsLaws.{file-some, kind-spelled}
+use Rattle.kinds.specs.declared.Kind.{Kind}
+use Rattle.refusals.specs.Refusals.{moduleRefused}
 use Rattle.pieces.specs.Pieces.{countOf}
 use Rattle.pieces.specs.PiecesLaws.{count-some}
-use Rattle.wire.specs.Frame.{Frame}
-use Rattle.commands.specs.Commands.{accepted, wrongFirst, rateReply, parametersReply, packetReply, notice}
+use Rattle.wire.specs.Frame.{Frame, wireOf}
+use Rattle.wire.specs.WriteLaws.{wire-most}
+use Rattle.commands.specs.Commands.{accepted, wrongFirst, rateReply, parametersReply, packetReply, notice, restartFrame}
 use Rattle.host_model.specs.Stages.{numberOfRate, textFits, stageFits}
 use Rattle.host_model.specs.Waits.{mostRepeats, limitOf, wait, firstStage}
 use Rattle.host_model.specs.Nexts.{resendNext, timeNext}
@@ -33,7 +36,9 @@ use Rattle.host.specs.Step.{Left, Wishes, waitingOf, endedOf, timeStep, opening
 use Rattle.host_promises.specs.Runs.{Given, leaves, afterOf}
 use Rattle.host_promises.specs.Promises.{line, frame, GoodStep, RealEvent, Real, AllReal, Reached, ArisesReached}
 use Rattle.host_model.specs.WaitsLaws.{first-fits, limit-within}
-use Rattle.host_promises.specs.Arises.{arises-wait}
+use Rattle.host_promises.specs.Promises.{Awaits, restart, parameters}
+use Rattle.host_promises.specs.Arises.{arises-wait, wait-arises}
+use Rattle.host_promises.specs.Turns.{every-reason}
 use Rattle.host_promises.specs.Forward.{message-short, rate-answered, event-taken, arrived, Fits, fits-wait, Leads, frame-enters}
 use Rattle.host.specs.StepLaws.{sends-fits}
 use Rattle.host_promises.specs.Forward.{text-step, rate-step, parameters-step, packet-step, last-step, notice-step, opening-sends}
@@ -47,7 +52,7 @@ use Rattle.host_model.specs.declared.plan.Stage.{Stage}
 use Rattle.host_model.specs.declared.plan.Stage.the-variants.{Text, Asking, Declaring, Sending, Noticing, Restarting}
 use Rattle.host_model.specs.declared.waits.Wait.{Wait}
 use Rattle.host_model.specs.declared.waits.Phase.{Phase}
-use Rattle.host_model.specs.declared.waits.Phase.the-variants.{Ended, Waiting}
+use Rattle.host_model.specs.declared.waits.Phase.the-variants.{Ended, EndedAt, Waiting}
 use Rattle.host.specs.declared.session.Session.{Session}
 use Rattle.host_model.specs.declared.events.Event.{Event}
 use Rattle.host_model.specs.declared.events.Event.the-variants.{Line, Elapsed}
@@ -253,11 +258,35 @@ module _ (plan : Plan) (image : List ℕ) (real : Bytes image) (fits : fitsFile 
       reach-frame _ (Asking rate) (Declaring rate) x (omega arith) b (rate-step plan image (frameGiven x) rate f (frame-good x))
       (reach-rate rate h)
 
-  -- ---- the packets
-
   -- A number of two bytes with an ACK behind it is bytes.
   reply-bytes : (number ack : ℕ) → ack < 256 → Bytes (spelled 2 number ++ (ack ∷ []))
   reply-bytes number ack h = bytes-append (spelled 2 number) (ack ∷ []) (bytes-spelled 2 number) (h, tt)
+
+  -- The module refuses the parameters: the load ends at that rate.
+  reach-failed : (rate : Rate) → numberOfRate rate ≤ numberOfRate (plan .first)
+      → Reached (session (length image) (EndedAt (plan .kind) rate))
+  reach-failed rate h =
+      let s = arrived plan image (Declaring rate) in
+      let w = wait plan (Declaring rate) 0 0 in
+      let f : Fits plan image (Declaring rate) = stage-fits (Declaring rate) (facts-rate (plan .first) rate h) in
+      let x = parametersReply 0 wrongFirst in
+      let b : Bytes (x .payload) = reply-bytes 0 wrongFirst (omega arith) in
+      let waits : Awaits s w (frameGiven x) =
+      record {
+        phase-is = refl;
+        sound = wait-arises (length image) w (fits-wait plan image (Declaring rate) 0 0 f (omega arith) (omega arith));
+        same-length = refl;
+        all-bytes = b;
+      } in
+      let left-is =
+      every-reason s w (frameGiven x) waits .sent (wireOf restartFrame) _ _
+      (restart moduleRefused wrongFirst (parameters rate 0 refl (omega arith) (omega arith) (frame-good x .hears) refl) refl refl refl)
+      (omega (arith, wire-most restartFrame, zeros-long 2072)) in
+      reach-next s (session (length image) (EndedAt (plan .kind) rate)) (frameGiven x)
+      (step-real (event.Frame (x .command) (length (x .payload))) (x .payload) (omega arith) b)
+      (ap (λ (l : Left). l .session) left-is) (reach-declaring rate h)
+
+  -- ---- the packets
 
   -- A size that fits, and its rate.
   module _ (rate : Rate) (size : ℕ) (s : SentOf plan (length image) rate size) where
@@ -401,9 +430,18 @@ reach-waiting n w h = rw (zeros-long n) at (go (arises-wait (length (zeros n)) w
     go f =
         reach-waited (w .plan) (zeros n) (zeros-real n) (f .fitting) (w .stage) (f .staged) (w .waited) (w .repeats) (f .short) (f .few)
 
--- One in either phase.
+-- One that failed: its parameters were refused at the agreed rate.
+reach-failure : (n : ℕ) (kind : Kind) (rate : Rate) → arises (session n (EndedAt kind rate)) ≡ true → Reached (session n (EndedAt kind rate))
+unfolding arises
+reach-failure n kind rate h =
+    rw (zeros-long n)
+    at (reach-failed (record { kind = kind; first = rate; wish = 0; start = AtOnce; same = GoOn }) (zeros n) (zeros-real n)
+    (rw (zeros-long n) h) rate (omega arith))
+
+-- One in any phase.
 reach-phase : (n : ℕ) (phase : Phase) → arises (session n phase) ≡ true → Reached (session n phase)
 reach-phase n Ended h = reach-ended n
+reach-phase n (EndedAt kind rate) h = reach-failure n kind rate h
 reach-phase n (Waiting w) h = reach-waiting n w h
 
 pub arises-reached : ArisesReached

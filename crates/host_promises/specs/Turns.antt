@@ -20,8 +20,9 @@ use Rattle.wire.specs.Frame.{Frame, wireOf}
 use Rattle.commands.specs.Commands.{accepted, wrongFirst, wrongSecond, notUnderstood, largestTotal}
 use Rattle.commands.specs.Commands.{rateReply, parametersReply, packetReply, restartReply, notice, restartFrame}
 use Rattle.host_model.specs.Stages.{numberOfRate, stageFits}
+use Rattle.host_model.specs.Views.{failedPhase}
 use Rattle.host_model.specs.Waits.{limitOf, mostRepeats, phaseArises}
-use Rattle.host.specs.Session.{stepped, arises}
+use Rattle.host.specs.Session.{session, stepped, arises}
 use Rattle.host_model.specs.StagesLaws.{sending-facts}
 use Rattle.host_model.specs.WaitsLaws.{WaitOf, wait-facts}
 use Rattle.commands.specs.Commands.{startAnswer}
@@ -48,13 +49,14 @@ use Rattle.host_model.specs.declared.plan.Same.the-variants.{GoOn, Stop}
 use Rattle.host_model.specs.declared.plan.Stage.{Stage}
 use Rattle.host_model.specs.declared.plan.Stage.the-variants.{Text, Asking, Declaring, Sending, Noticing, Restarting}
 use Rattle.host_model.specs.declared.waits.Wait.{Wait}
+use Rattle.host_model.specs.declared.waits.Phase.{Phase}
 use Rattle.host_model.specs.declared.waits.Phase.the-variants.{Waiting}
 use Rattle.host.specs.declared.session.Session.{Session}
 use Rattle.host_model.specs.declared.events.Event.{Event}
 use Rattle.host_model.specs.declared.events.Event.the-variants.{Line, Elapsed}
 use Rattle.host_model.specs.declared.events.Event.the-variants as event
 use Rattle.host_model.specs.declared.events.Answer.{Answer}
-use Rattle.host_model.specs.declared.events.Answer.the-variants.{Nothing, Sent, Refused}
+use Rattle.host_model.specs.declared.events.Answer.the-variants.{Nothing, Sent, Refused, Failed}
 use Rattle.host_model.specs.declared.nexts.Next.{Next}
 use Rattle.host_model.specs.declared.answers.Move.{Move}
 use Rattle.host_model.specs.declared.answers.Move.the-variants.{Stay, Enter, Await, Resend, Refuse, TooMany, Finish}
@@ -309,7 +311,7 @@ time-resends s w ms image output h = ap (λ (n : Next). performs s n image outpu
 
 -- ---- from the reason to the turn
 
-module _ (s : Session) (w : Wait) (g : Given) where
+module _ (s : Session) (w : Wait) (g : Given) (told : s .phase ≡ Waiting w) where
   -- A message, sent or not.
   message-turn : (message : List ℕ) (next : Session) (answer : Answer) → Message w g message next answer
       → Turn s w g (sends s (stepped next answer) message (g .output))
@@ -343,7 +345,8 @@ module _ (s : Session) (w : Wait) (g : Given) where
       (ap (λ (n : Stage). left (stepped (waitingOf (length (g .image)) (w .plan) n 0 (w .repeats)) Nothing) (g .output)) next-is)
   move-turn Resend reason = due-turn reason
   move-turn (Refuse number passed) reason =
-      message-turn (wireOf restartFrame) _ _ (restart number passed reason refl refl refl)
+      message-turn (wireOf restartFrame) _ _
+      (restart number passed reason refl (ap (λ (p : Phase). session (length (g .image)) (failedPhase p)) told) refl)
   move-turn TooMany reason = too-many reason refl
   move-turn Finish reason = finishes reason refl
 
@@ -594,11 +597,16 @@ module _ {s : Session} {w : Wait} {g : Given} (a : Awaits s w g) where
   message-leaves message next answer (again due few m n r) =
       rw (r, m, n) (due-leaves due ∙ resends-more s w (g .image) (g .output) few)
   message-leaves message next answer (onward stage follows m n r) = rw (r, m, n) (follows-leaves stage follows)
-  message-leaves message next answer (restart number passed refused m n r) = rw (r, m, n) (refused-leaves number passed refused)
+  message-leaves message next answer (restart number passed refused m n r) =
+      rw (r, m, n)
+      (refused-leaves number passed refused
+      ∙ ap
+      (λ (p : Phase). sends s (stepped (session (length (g .image)) (failedPhase p)) (Failed number passed (length (wireOf restartFrame)))) (wireOf restartFrame) (g .output))
+      (a .phase-is))
 
 -- Every step is one of the turns.
 pub every-turn : EveryTurn
-every-turn s w g a = rw (awaits-step a) (event-turn s w g (g .event) refl (a .all-bytes) (awaits-facts a .staged))
+every-turn s w g a = rw (awaits-step a) (event-turn s w g (a .phase-is) (g .event) refl (a .all-bytes) (awaits-facts a .staged))
 
 -- Each turn with a reason comes where its reason holds.
 pub every-reason : EveryReason
