@@ -2,7 +2,8 @@
 ghost use mathlib.Core.List.{[]};
 ghost use mathlib.Core.Path.{_≡_};
 ghost use lib.ListN.{length};
-ghost use Rattle.host_model.specs.Views.{progressOf, phaseProgress, phaseRate, phaseRepeats};
+ghost use Rattle.host_model.specs.Views.{progressOf, lineNumber};
+ghost use Rattle.host.specs.Session.{sessionProgress, sessionRate, sessionRepeats};
 ghost use Rattle.host_model.specs.declared.events.Event.the-variants as Event;
 ghost use Rattle.kept_host.specs.Kept.{stands, sessionIn, lineNumber, opened, keptOpening, kept, keptStep};
 
@@ -79,22 +80,21 @@ pub extern "C" fn zrn_host_can_arise(state: &[u8]) -> bool
 
 #[no_mangle]
 pub extern "C" fn zrn_host_progress(state: &[u8], total: &mut usize) -> usize
-    ensures { λ r. ⌜ progressOf r (now (total .exit))
-        ≡ phaseProgress (sessionIn (now (state .entry)) .phase) (sessionIn (now (state .entry)) .image) ⌝ }
+    ensures { λ r. ⌜ progressOf r (now (total .exit)) ≡ sessionProgress (sessionIn (now (state .entry))) ⌝ }
 {
     kept_host::progress(state, total)
 }
 
 #[no_mangle]
 pub extern "C" fn zrn_host_line_rate(state: &[u8]) -> u8
-    ensures { λ r. ⌜ r ≡ lineNumber (phaseRate (sessionIn (now (state .entry)) .phase)) ⌝ }
+    ensures { λ r. ⌜ r ≡ lineNumber (sessionRate (sessionIn (now (state .entry)))) ⌝ }
 {
     kept_host::line_rate(state)
 }
 
 #[no_mangle]
 pub extern "C" fn zrn_host_resent(state: &[u8]) -> u32
-    ensures { λ r. ⌜ r ≡ phaseRepeats (sessionIn (now (state .entry)) .phase) ⌝ }
+    ensures { λ r. ⌜ r ≡ sessionRepeats (sessionIn (now (state .entry))) ⌝ }
 {
     kept_host::resent(state)
 }

@@ -2,6 +2,7 @@
 use Prim.Native.Nat.{ℕ, _-_}
 use Rattle.kinds.specs.declared.Kind.{Kind}
 use Rattle.pieces.specs.Pieces.{countOf}
+use Rattle.host_model.specs.Stages.{numberOfRate}
 use Rattle.host_model.specs.declared.plan.Stage.{Stage}
 use Rattle.host_model.specs.declared.plan.Stage.the-variants.{Text, Asking, Declaring, Sending, Noticing, Restarting}
 use Rattle.host_model.specs.declared.waits.Phase.{Phase}
@@ -41,16 +42,21 @@ phaseRate Ended = AsItWas
 phaseRate (EndedAt kind rate) = Agreed rate
 phaseRate (Waiting w) = stageRate (w .stage)
 
+-- The rate of the line by its number, 0 as it was.
+abbrev pub lineNumber : LineRate → ℕ
+lineNumber AsItWas = 0
+lineNumber (Agreed rate) = numberOfRate rate
+
 -- How a load ends whose restart frame is sent with 21 or 22: that frame goes out at the rate that the line has, and the ended session
 -- keeps it.
-abbrev pub endedWith : Kind → LineRate → Phase
-endedWith kind AsItWas = Ended
-endedWith kind (Agreed rate) = EndedAt kind rate
+abbrev pub endedAtRate : Kind → LineRate → Phase
+endedAtRate kind AsItWas = Ended
+endedAtRate kind (Agreed rate) = EndedAt kind rate
 
 abbrev pub failedPhase : Phase → Phase
 failedPhase Ended = Ended
 failedPhase (EndedAt kind rate) = EndedAt kind rate
-failedPhase (Waiting w) = endedWith (w .plan .kind) (stageRate (w .stage))
+failedPhase (Waiting w) = endedAtRate (w .plan .kind) (stageRate (w .stage))
 
 -- How often the frame under way was resent.
 abbrev pub phaseRepeats : Phase → ℕ

@@ -13,7 +13,7 @@ use Rattle.host_model.specs.Stages.{stageFits}
 use Rattle.host_model.specs.Answers.{frameMove, lineMove}
 use Rattle.host_model.specs.StagesLaws.{Small, SmallMove, facts-rate, stage-small}
 use Rattle.host_model.specs.Moves.{fits-frame, fits-line, fits-small}
-use Rattle.host_model.specs.Views.{stageRate, endedWith, failedPhase}
+use Rattle.host_model.specs.Views.{stageRate, endedAtRate, failedPhase}
 use Rattle.host_model.specs.Waits.{mostRepeats, limitOf, firstStage, loadable, waitFits, phaseArises}
 use Rattle.host_model.specs.declared.plan.Rate.{Rate}
 use Rattle.host_model.specs.declared.plan.Plan.{Plan}
@@ -111,7 +111,7 @@ wait-line image w line h =
     fits-small (w .plan) image (lineMove (w .plan) (w .stage) line) (fits-line (w .plan) image (w .stage) line)
 
 -- A load that fails in a phase that could arise leaves one that could.
-with-arises : (image : ℕ) (kind : Kind) (line : LineRate) → loadable kind image ≡ true → phaseArises image (endedWith kind line) ≡ true
+with-arises : (image : ℕ) (kind : Kind) (line : LineRate) → loadable kind image ≡ true → phaseArises image (endedAtRate kind line) ≡ true
 with-arises image kind AsItWas h = refl
 with-arises image kind (Agreed rate) h = h
 

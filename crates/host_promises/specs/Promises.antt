@@ -14,7 +14,7 @@ use Rattle.commands.specs.Commands.{rateReply, parametersReply, packetReply, re
 use Rattle.commands.specs.Commands.{rateFrame, parametersFrame, packetFrame, restartFrame}
 use Rattle.refusals.specs.Refusals.{noRoom, wrongPieces, noAnswer, moduleRefused, badNotice}
 use Rattle.host_model.specs.Stages.{numberOfRate}
-use Rattle.host_model.specs.Views.{stageRate, endedWith}
+use Rattle.host_model.specs.Views.{stageRate, endedAtRate}
 use Rattle.host_model.specs.Waits.{limitOf}
 use Rattle.host.specs.Session.{session, stepped, arises}
 use Rattle.commands.specs.Commands.{startText, startAnswer}
@@ -141,7 +141,7 @@ pub data Message (w : Wait) (g : Given) (message : List ℕ) (next : Session) (a
   onward : (stage : Stage) → Follows (w .plan) (length (g .image)) g (w .stage) stage → message ≡ messageOf (w .plan) (g .image) stage
       → next ≡ waitingOf (length (g .image)) (w .plan) stage 0 0 → answer ≡ Sent (length message) → Message w g message next answer
   restart : (number passed : ℕ) → RefusedBy w g number passed → message ≡ wireOf restartFrame
-      → next ≡ session (length (g .image)) (endedWith (w .plan .kind) (stageRate (w .stage))) → answer ≡ Failed number passed (length message) → Message w g message next answer
+      → next ≡ session (length (g .image)) (endedAtRate (w .plan .kind) (stageRate (w .stage))) → answer ≡ Failed number passed (length message) → Message w g message next answer
 
 -- What a step is.
 pub data Turn (s : Session) (w : Wait) (g : Given) (x : Left) : Type 0 where

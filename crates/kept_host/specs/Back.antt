@@ -10,6 +10,7 @@ use Rattle.octets.specs.Octets.{little, spelled, numberAt, over}
 use Rattle.octets.specs.OctetsLaws.{little-spelled}
 use Rattle.kinds.specs.Kinds.{kindOf, numberOf}
 use Rattle.kinds.specs.KindsLaws.{kind-of-number, kind-spelled}
+use Rattle.kinds.specs.declared.Kind.{Kind}
 use Rattle.kinds.specs.declared.Known.{Known}
 use Rattle.kinds.specs.declared.Known.the-variants.{Is}
 use Rattle.flat.specs.Words.{lowHalf, highHalf, spelledAll, recorded, standsFor}
@@ -27,16 +28,17 @@ use Rattle.host_model.specs.declared.plan.Plan.{Plan}
 use Rattle.host_model.specs.declared.plan.Stage.{Stage}
 use Rattle.host_model.specs.declared.plan.Stage.the-variants.{Text, Asking, Declaring, Sending, Noticing, Restarting}
 use Rattle.host.specs.Session.{session, arises}
+use Rattle.host_model.specs.Waits.{wait}
 use Rattle.host_model.specs.WaitsLaws.{WaitOf}
 use Rattle.host_promises.specs.Arises.{arises-wait}
 use Rattle.host_model.specs.WaitsLaws.{limit-within}
 use Rattle.host_model.specs.declared.waits.Wait.{Wait}
 use Rattle.host_model.specs.declared.waits.Phase.{Phase}
-use Rattle.host_model.specs.declared.waits.Phase.the-variants.{Ended, Waiting}
+use Rattle.host_model.specs.declared.waits.Phase.the-variants.{Ended, EndedAt, Waiting}
 use Rattle.host.specs.declared.session.Session.{Session}
 use Rattle.kept_host.specs.Record.{imagePlace, wishPlace, typePlace, waitedPlace, repeatsPlace, recordBytes}
 use Rattle.kept_host.specs.Kept.{startNumber, sameNumber, stageWords, waitWords, endedWords, wordsOf}
-use Rattle.kept_host.specs.Kept.{rateIn, startIn, sameIn, stageOf, stageIn, planIn, phaseIn, fieldsIn, stands, sessionIn}
+use Rattle.kept_host.specs.Kept.{rateIn, startIn, sameIn, stageOf, stageIn, planIn, kindPhase, phaseIn, fieldsIn, stands, sessionIn}
 use Rattle.kept_host.specs.KeptLaws.{words-count}
 use Rattle.kept_host.specs.Promises.{wishIn, Real, KeptBack}
 use Rattle.kept_host.specs.declared.words.Staged.{Staged}
@@ -140,6 +142,19 @@ stage-words (Sending rate size number) = omega arith
 stage-words (Noticing rate size) = omega arith
 stage-words (Restarting rate size) = omega arith
 
+-- No stage that waits has the number of an ended session.
+waiting-at : (image : ℕ) (stage : Stage) (w : Wait) (st : List ℕ)
+    → let all = written image (stageWords stage) w st in
+    kindPhase (w .plan .kind) all
+    ≡ Waiting (wait (planIn (w .plan .kind) all) (stageIn all) (numberAt 4 all waitedPlace) (numberAt 4 all repeatsPlace))
+unfolding kindPhase spelledAll spelled over
+waiting-at image Text w st = refl
+waiting-at image (Asking rate) w st = refl
+waiting-at image (Declaring rate) w st = refl
+waiting-at image (Sending rate size number) w st = refl
+waiting-at image (Noticing rate size) w st = refl
+waiting-at image (Restarting rate size) w st = refl
+
 -- All of it.
 wait-back : (image : ℕ) (w : Wait) (st : List ℕ) → WaitOf image w → image < 2 ^ 64 → w .plan .wish < 2 ^ 64
     → fieldsIn (written image (stageWords (w .stage)) w st) ≡ session image (Waiting w)
@@ -152,26 +167,55 @@ wait-back image w st f short wish =
     stage-at image s w st (words .0) (words .1) ∙ stage-back (w .plan) image (w .stage) (f .staged) in
     ap₂ session (image-at image s w st ∙ halves image short)
     (ap (λ (k : Known). phaseIn k (written image s w st)) (kind-at image s w st)
+    ∙ waiting-at image (w .stage) w st
     ∙ rw (plan-at image s w st wish, staged, times .0, times .1))
 
 -- ---- one that has ended
 
-ended-back : (image : ℕ) (st : List ℕ) → image < 2 ^ 64 → fieldsIn (over (spelledAll (endedWords image)) st) ≡ session image Ended
-unfolding fieldsIn kindOf numberAt little spelledAll spelled over
-ended-back image st short =
-    let all : List ℕ = over (spelledAll (endedWords image)) st in
-    let read : numberAt 8 all imagePlace ≡ lowHalf image + 4294967296 * highHalf image =
-    number-eight all imagePlace
-    ∙ ap₂ (λ (x y : ℕ). x + 4294967296 * y)
-    (little-spelled 4 (lowHalf image) (omega arith)) (little-spelled 4 (highHalf image) (omega arith)) in
-    ap₂ session (read ∙ halves image short) refl
+module _ (image type rate : ℕ) (st : List ℕ) where
+  abbrev ended : List ℕ
+  ended = over (spelledAll (endedWords image type rate)) st
+
+  ended-image : image < 2 ^ 64 → numberAt 8 ended imagePlace ≡ image
+  unfolding numberAt spelledAll spelled over
+  ended-image short =
+      number-eight ended imagePlace
+      ∙ ap₂ (λ (x y : ℕ). x + 4294967296 * y)
+      (little-spelled 4 (lowHalf image) (omega arith)) (little-spelled 4 (highHalf image) (omega arith))
+      ∙ halves image short
+
+  ended-type : type < 256 ^ 2 → numberAt 2 ended typePlace ≡ type
+  unfolding numberAt spelledAll spelled over
+  ended-type h = little-spelled 2 type h
+
+  ended-phase : (kind : Kind) → kindPhase kind ended ≡ EndedAt kind (rateIn (rate % 256))
+  unfolding kindPhase spelledAll spelled over
+  ended-phase kind = refl
+
+over-back : (image : ℕ) (st : List ℕ) → image < 2 ^ 64 → fieldsIn (over (spelledAll (endedWords image 0 0)) st) ≡ session image Ended
+unfolding fieldsIn kindOf
+over-back image st short =
+    ap₂ session (ended-image image 0 0 st short) (ap (λ (n : ℕ). phaseIn (kindOf n) (ended image 0 0 st)) (ended-type image 0 0 st (omega arith)))
+
+failed-back : (image : ℕ) (kind : Kind) (rate : Rate) (st : List ℕ) → image < 2 ^ 64
+    → fieldsIn (over (spelledAll (endedWords image (numberOf kind) (numberOfRate rate))) st) ≡ session image (EndedAt kind rate)
+unfolding fieldsIn
+failed-back image kind rate st short =
+    let all : List ℕ = ended image (numberOf kind) (numberOfRate rate) st in
+    let known : kindOf (numberAt 2 all typePlace) ≡ Is kind =
+    ap kindOf (ended-type image (numberOf kind) (numberOfRate rate) st (kind-spelled kind .0)) ∙ kind-of-number kind in
+    ap₂ session (ended-image image (numberOf kind) (numberOfRate rate) st short)
+    (ap (λ (k : Known). phaseIn k all) known
+    ∙ ended-phase image (numberOf kind) (numberOfRate rate) st kind
+    ∙ ap (EndedAt kind) (rate-back rate))
 
 -- ---- any
 
 phase-back : (image : ℕ) (phase : Phase) (st : List ℕ) → arises (session image phase) ≡ true → image < 2 ^ 64 → wishIn phase < 2 ^ 64
     → fieldsIn (over (spelledAll (wordsOf (session image phase))) st) ≡ session image phase
 unfolding wordsOf
-phase-back image Ended st a short wish = ended-back image st short
+phase-back image Ended st a short wish = over-back image st short
+phase-back image (EndedAt kind rate) st a short wish = failed-back image kind rate st short
 phase-back image (Waiting w) st a short wish = wait-back image w st (arises-wait image w a) short wish
 
 module _ (s : Session) (st : List ℕ) (a : arises s ≡ true) (r : Real s) (room : recordBytes ≤ length st) where

@@ -25,16 +25,14 @@ use Rattle.host_model.specs.declared.plan.Stage.the-variants.{Text, Asking, Dec
 use Rattle.host.specs.Session.{session, stepped, arises}
 use Rattle.host_model.specs.Waits.{wait}
 use Rattle.host.specs.Step.{Left, left, Wishes, stepOf, endedOf, openingOf}
-use Rattle.host_model.specs.Events.{countIn}
+use Rattle.host_model.specs.Events.{numberBy, passedIn, countIn}
 use Rattle.host_model.specs.declared.waits.Wait.{Wait}
 use Rattle.host_model.specs.declared.waits.Phase.{Phase}
-use Rattle.host_model.specs.declared.waits.Phase.the-variants.{Ended, Waiting}
+use Rattle.host_model.specs.declared.waits.Phase.the-variants.{Ended, EndedAt, Waiting}
 use Rattle.host.specs.declared.session.Session.{Session}
 use Rattle.host_model.specs.declared.events.Event.{Event}
 use Rattle.host_model.specs.declared.events.Answer.{Answer}
-use Rattle.host_model.specs.declared.events.Answer.the-variants.{Nothing, Sent, Done, Refused, Failed}
-use Rattle.host_model.specs.declared.views.LineRate.{LineRate}
-use Rattle.host_model.specs.declared.views.LineRate.the-variants.{AsItWas, Agreed}
+use Rattle.host_model.specs.declared.events.Answer.the-variants.{Refused}
 use Rattle.kept_host.specs.Record.{imagePlace, wishPlace, stagePlace, typePlace, firstPlace, ratePlace, startPlace, samePlace, sizePlace, numberPlace, waitedPlace, repeatsPlace}
 use Rattle.kept_host.specs.Record.{recordBytes, endedStage, textStage, askingStage, declaringStage, sendingStage, noticingStage, restartingStage}
 use Rattle.kept_host.specs.declared.words.Staged.{Staged}
@@ -72,12 +70,13 @@ waitWords image s w =
     ∷ startNumber (w .plan .start) ∷ sameNumber (w .plan .same)
     ∷ s .size ∷ s .number ∷ w .waited ∷ w .repeats ∷ []
 
--- The words of an ended one: its image length, and zeros.
-abbrev pub endedWords : ℕ → List ℕ
-endedWords image = lowHalf image ∷ highHalf image ∷ 0 ∷ 0 ∷ endedStage ∷ 0 ∷ 0 ∷ 0 ∷ 0 ∷ 0 ∷ 0 ∷ 0 ∷ 0 ∷ 0 ∷ []
+-- The words of an ended one: its image length, the type and the rate of its restart frame where it keeps them, and zeros.
+abbrev pub endedWords : ℕ → ℕ → ℕ → List ℕ
+endedWords image type rate = lowHalf image ∷ highHalf image ∷ 0 ∷ 0 ∷ endedStage ∷ type ∷ 0 ∷ rate ∷ 0 ∷ 0 ∷ 0 ∷ 0 ∷ 0 ∷ 0 ∷ []
 
 abbrev pub phaseWords : ℕ → Phase → List ℕ
-phaseWords image Ended = endedWords image
+phaseWords image Ended = endedWords image 0 0
+phaseWords image (EndedAt kind rate) = endedWords image (numberOf kind) (numberOfRate rate)
 phaseWords image (Waiting w) = waitWords image (stageWords (w .stage)) w
 
 -- The words of a session.
@@ -119,9 +118,15 @@ planIn kind st =
       same = sameIn (getD st samePlace 0);
     }
 
+-- With a known type: ended at a rate, or waiting.
+unfoldable pub kindPhase : Kind → List ℕ → Phase
+kindPhase kind st =
+    cond (eqb (getD st stagePlace 0) endedStage) (EndedAt kind (rateIn (getD st ratePlace 0)))
+    (Waiting (wait (planIn kind st) (stageIn st) (numberAt 4 st waitedPlace) (numberAt 4 st repeatsPlace)))
+
 -- A type that is not known is read as a session that has ended.
 abbrev pub phaseIn : Known → List ℕ → Phase
-phaseIn (Is kind) st = Waiting (wait (planIn kind st) (stageIn st) (numberAt 4 st waitedPlace) (numberAt 4 st repeatsPlace))
+phaseIn (Is kind) st = kindPhase kind st
 phaseIn Unknown st = Ended
 
 -- The session that the numbers of some bytes say.
@@ -144,27 +149,10 @@ keptOf st s = cond (stands st) (recorded (wordsOf s) st) st
 
 -- Nothing 0, sent 100, done 103, a refusal its own number.
 abbrev pub answerNumber : Answer → ℕ
-answerNumber Nothing = nothing
-answerNumber (Sent n) = written
-answerNumber Done = done
-answerNumber (Refused number) = number
-answerNumber (Failed number passed n) = number
-
--- The module's byte that is passed on.
-abbrev pub answerPassed : Answer → ℕ
-answerPassed Nothing = 0
-answerPassed (Sent n) = 0
-answerPassed Done = 0
-answerPassed (Refused number) = 0
-answerPassed (Failed number passed n) = passed
+answerNumber a = numberBy nothing written done a
 
 abbrev pub toldOf : Answer → Told
-toldOf a = record { number = answerNumber a; count = countIn a; passed = answerPassed a }
-
--- The rate of the line by its number, 0 as it was.
-abbrev pub lineNumber : LineRate → ℕ
-lineNumber AsItWas = 0
-lineNumber (Agreed rate) = numberOfRate rate
+toldOf a = record { number = answerNumber a; count = countIn a; passed = passedIn a }
 
 -- ---- what a call leaves
 
@@ -182,7 +170,7 @@ kept answer count passed state output =
 
 -- What a step of the session leaves, with the bytes that then keep it.
 abbrev pub keptAs : Left → List ℕ → Kept
-keptAs l state = kept (answerNumber (l .answer)) (countIn (l .answer)) (answerPassed (l .answer)) state (l .output)
+keptAs l state = kept (answerNumber (l .answer)) (countIn (l .answer)) (passedIn (l .answer)) state (l .output)
 
 -- An event: the session's own step, from the session kept to the one kept after it.
 unfoldable pub keptStep : List ℕ → Event → List ℕ → List ℕ → List ℕ → Kept

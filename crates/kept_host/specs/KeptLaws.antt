@@ -3,20 +3,25 @@ use Prim.Native.Nat.{ℕ}
 use mathlib.Core.Bool.{Bool}
 use mathlib.Core.List.{List}
 use mathlib.Core.Path.{_≡_, refl, sym, ap, _∙_}
-use lib.ListN.{length}
-use Rattle.octets.specs.Octets.{sameBytes, partOf}
+use borrow.Author.Tests.{eq-eqb, ne-eqb}
+use lib.ListN.{length, getD}
+use Rattle.octets.specs.Choice.{cond-yes, cond-no}
+use Rattle.octets.specs.Octets.{numberAt, sameBytes, partOf}
+use Rattle.kinds.specs.declared.Kind.{Kind}
+use Rattle.host_model.specs.Waits.{wait}
+use Rattle.host_model.specs.declared.plan.Rate.{Rate}
 use Rattle.flat.specs.Words.{spelledAll, recorded, standsFor}
 use Rattle.flat.specs.WordsLaws.{length-spelled-all}
 use Rattle.flat.specs.Found.{recorded-alone}
 use Rattle.host.specs.Session.{session}
 use Rattle.host.specs.Step.{Left, left, stepOf}
 use Rattle.host_model.specs.declared.waits.Phase.{Phase}
-use Rattle.host_model.specs.declared.waits.Phase.the-variants.{Ended, Waiting}
+use Rattle.host_model.specs.declared.waits.Phase.the-variants.{Ended, EndedAt, Waiting}
 use Rattle.host.specs.declared.session.Session.{Session}
 use Rattle.host_model.specs.declared.events.Event.{Event}
 use Rattle.host.specs.declared.session.Stepped.{Stepped}
-use Rattle.kept_host.specs.Record.{recordWords, recordBytes}
-use Rattle.kept_host.specs.Kept.{wordsOf, phaseWords, fieldsIn, sessionIn, keptOf, toldOf, kept, keptAs, keptStep, opened, openedAs}
+use Rattle.kept_host.specs.Record.{stagePlace, ratePlace, waitedPlace, repeatsPlace, recordWords, recordBytes, endedStage}
+use Rattle.kept_host.specs.Kept.{wordsOf, phaseWords, rateIn, stageIn, planIn, kindPhase, fieldsIn, sessionIn, keptOf, toldOf, kept, keptAs, keptStep, opened, openedAs}
 use Rattle.kept_host.specs.declared.answers.Told.{Told}
 
 -- ---- the record
@@ -24,6 +29,7 @@ use Rattle.kept_host.specs.declared.answers.Told.{Told}
 -- How many words a session has.
 phase-count : (image : ℕ) (phase : Phase) → length (phaseWords image phase) ≡ recordWords
 phase-count image Ended = refl
+phase-count image (EndedAt kind rate) = refl
 phase-count image (Waiting w) = refl
 
 pub words-count : (s : Session) → length (wordsOf s) ≡ recordWords
@@ -42,6 +48,20 @@ compared st own after front s same read e writes part compares =
     ∙ rw (all, part)
     (ap (λ (n : ℕ). sameBytes (spelledAll (wordsOf s)) (partOf st 0 n)) (sym size)
     ∙ ap (λ (x : Session). standsFor (wordsOf x) st) read)
+
+-- ---- the phase of a known type
+
+module _ (kind : Kind) (st : List ℕ) (stage : ℕ) (at : stage ≡ getD st stagePlace 0) where
+  pub phase-ended : stage ≡ endedStage → (rate : ℕ) (r : Rate) → rate ≡ getD st ratePlace 0 → r ≡ rateIn rate
+      → EndedAt kind r ≡ kindPhase kind st
+  unfolding kindPhase
+  phase-ended e rate r there is =
+      ap (EndedAt kind) (is ∙ ap rateIn there) ∙ sym (cond-yes _ _ _ (eq-eqb (getD st stagePlace 0) endedStage (sym at ∙ e)))
+
+  pub phase-waits : (stage ≡ endedStage → ⊥)
+      → Waiting (wait (planIn kind st) (stageIn st) (numberAt 4 st waitedPlace) (numberAt 4 st repeatsPlace)) ≡ kindPhase kind st
+  unfolding kindPhase
+  phase-waits n = sym (cond-no _ _ _ (ne-eqb (getD st stagePlace 0) endedStage (λ e. n (at ∙ e))))
 
 -- ---- the calls
 

@@ -11,7 +11,7 @@ use Rattle.host.specs.Session.{arises}
 use Rattle.host.specs.Step.{Wishes, openingOf}
 use Rattle.host_promises.specs.Runs.{Given, leaves, afterOf}
 use Rattle.host_model.specs.declared.waits.Phase.{Phase}
-use Rattle.host_model.specs.declared.waits.Phase.the-variants.{Ended, Waiting}
+use Rattle.host_model.specs.declared.waits.Phase.the-variants.{Ended, EndedAt, Waiting}
 use Rattle.host.specs.declared.session.Session.{Session}
 use Rattle.kept_host.specs.Record.{recordBytes}
 use Rattle.kept_host.specs.Kept.{startNumber, sameNumber, wordsOf, stands, sessionIn, Kept, keptAs, keptStep, Opened, openedAs, keptOpening}
@@ -21,6 +21,7 @@ use Rattle.kept_host.specs.Kept.{startNumber, sameNumber, wordsOf, stand
 -- The wish of a session that waits; one that has ended has none.
 abbrev pub wishIn : Phase → ℕ
 wishIn Ended = 0
+wishIn (EndedAt kind rate) = 0
 wishIn (Waiting w) = w .plan .wish
 
 -- Image length and wish are numbers of eight bytes, as the types of the calls have them.

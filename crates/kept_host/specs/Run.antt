@@ -9,6 +9,7 @@ use lib.Dec.{eqb, leb, ltb}
 use lib.ListN.{length, take}
 use Rattle.octets.specs.Choice.{either-way, cond-yes, cond-no}
 use Rattle.kinds.specs.Kinds.{kindOf}
+use Rattle.kinds.specs.declared.Kind.{Kind}
 use Rattle.kinds.specs.declared.Known.{Known}
 use Rattle.kinds.specs.declared.Known.the-variants.{Is, Unknown}
 use Rattle.flat.specs.Words.{recorded}
@@ -22,7 +23,10 @@ use Rattle.host_model.specs.declared.plan.Start.{Start}
 use Rattle.host_model.specs.declared.plan.Start.the-variants.{WithText, AtOnce}
 use Rattle.host_model.specs.declared.plan.Same.{Same}
 use Rattle.host_model.specs.declared.plan.Same.the-variants.{GoOn, Stop}
+use Rattle.host_model.specs.Views.{stageRate, endedAtRate, failedPhase}
 use Rattle.host_model.specs.Waits.{mostRepeats, limitOf, loadable}
+use Rattle.host_model.specs.declared.views.LineRate.{LineRate}
+use Rattle.host_model.specs.declared.views.LineRate.the-variants.{AsItWas, Agreed}
 use Rattle.host_model.specs.Nexts.{resendNext, timeNext, planNext}
 use Rattle.host.specs.Session.{arises}
 use Rattle.host.specs.Step.{Left, Wishes, sends, endedOf, performs, resends, moved, timeStep, eventStep, phaseStep, stepOf}
@@ -32,7 +36,7 @@ use Rattle.host_promises.specs.Arises.{step-arises, reached-arises}
 use Rattle.host_model.specs.declared.nexts.Next.{Next}
 use Rattle.host_model.specs.declared.waits.Wait.{Wait}
 use Rattle.host_model.specs.declared.waits.Phase.{Phase}
-use Rattle.host_model.specs.declared.waits.Phase.the-variants.{Ended, Waiting}
+use Rattle.host_model.specs.declared.waits.Phase.the-variants.{Ended, EndedAt, Waiting}
 use Rattle.host.specs.declared.session.Session.{Session}
 use Rattle.host_model.specs.declared.events.Event.{Event}
 use Rattle.host_model.specs.declared.events.Event.the-variants.{Frame, Line, Elapsed}
@@ -50,6 +54,16 @@ use Rattle.kept_host.specs.Back.{kept-back}
 
 abbrev RealLeft : Left → Type 0
 RealLeft l = Real (l .session)
+
+-- A load that has failed has no wish, whatever rate it keeps.
+rate-wish : (kind : Kind) (line : LineRate) → wishIn (endedAtRate kind line) < 2 ^ 64
+rate-wish kind AsItWas = omega arith
+rate-wish kind (Agreed rate) = omega arith
+
+failed-wish : (phase : Phase) → wishIn (failedPhase phase) < 2 ^ 64
+failed-wish Ended = omega arith
+failed-wish (EndedAt kind rate) = omega arith
+failed-wish (Waiting w) = rate-wish (w .plan .kind) (stageRate (w .stage))
 
 ended-real : (image : ℕ) → image < 2 ^ 64 → Real (endedOf image)
 ended-real image h = record { image-real = h; wish-real = omega arith }
@@ -74,7 +88,7 @@ module _ (s : Session) (w : Wait) (image output : List ℕ) (r : Real s) (short 
   moved-real (Enter next) = sends-real s _ _ output r (record { image-real = short; wish-real = wish })
   moved-real (Await next) = record { image-real = short; wish-real = wish }
   moved-real Resend = resends-real
-  moved-real (Refuse number passed) = sends-real s _ _ output r (ended-real (length image) short)
+  moved-real (Refuse number passed) = sends-real s _ _ output r (record { image-real = short; wish-real = failed-wish (s .phase) })
   moved-real TooMany = ended-real (length image) short
   moved-real Finish = ended-real (length image) short
 
@@ -95,6 +109,7 @@ module _ (s : Session) (w : Wait) (image output : List ℕ) (r : Real s) (short 
 phase-real : (s : Session) (phase : Phase) (g : Given) → Real s → length (g .image) < 2 ^ 64 → wishIn phase < 2 ^ 64
     → RealLeft (phaseStep s phase (g .event) (g .bytes) (g .image) (g .output))
 phase-real s Ended g r short wish = r
+phase-real s (EndedAt kind rate) g r short wish = r
 phase-real s (Waiting w) g r short wish = event-real s w (g .image) (g .output) r short wish (g .event) (g .bytes)
 
 step-real : (s : Session) (g : Given) → Real s → Real (leaves s g .session)

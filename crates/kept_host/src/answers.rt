@@ -1,6 +1,7 @@
 // The session's answers by number.
 ghost use mathlib.Core.Path.{_≡_};
-ghost use Rattle.kept_host.specs.Kept.{toldOf, lineNumber};
+ghost use Rattle.host_model.specs.Views.{lineNumber};
+ghost use Rattle.kept_host.specs.Kept.{toldOf};
 use host::Answer;
 use host::LineRate;
 use stages::rate_number;

@@ -2,8 +2,9 @@
 ghost use mathlib.Core.Path.{_≡_};
 ghost use mathlib.Core.List.{[]};
 ghost use lib.ListN.{length};
-ghost use Rattle.host_model.specs.Views.{progressOf, phaseProgress, phaseRate, phaseRepeats};
-ghost use Rattle.kept_host.specs.Kept.{sessionIn, lineNumber, kept, keptStep};
+ghost use Rattle.host_model.specs.Views.{progressOf, lineNumber};
+ghost use Rattle.host.specs.Session.{sessionProgress, sessionRate, sessionRepeats};
+ghost use Rattle.kept_host.specs.Kept.{sessionIn, kept, keptStep};
 use crate::answers::line_number;
 use crate::answers::told_of;
 use crate::kept::keep;
@@ -103,8 +104,7 @@ fn step(
 
 // Packets accepted, and packets in all.
 pub fn progress(state: &[u8], total: &mut usize) -> usize
-    ensures { λ r. ⌜ progressOf r (now (total .exit))
-        ≡ phaseProgress (sessionIn (now (state .entry)) .phase) (sessionIn (now (state .entry)) .image) ⌝ }
+    ensures { λ r. ⌜ progressOf r (now (total .exit)) ≡ sessionProgress (sessionIn (now (state .entry))) ⌝ }
 {
     let progress = session_in(state).progress();
     *total = progress.total;
@@ -113,14 +113,14 @@ pub fn progress(state: &[u8], total: &mut usize) -> usize
 
 // The number of the rate that the line should have now, 0 as it was.
 pub fn line_rate(state: &[u8]) -> u8
-    ensures { λ r. ⌜ r ≡ lineNumber (phaseRate (sessionIn (now (state .entry)) .phase)) ⌝ }
+    ensures { λ r. ⌜ r ≡ lineNumber (sessionRate (sessionIn (now (state .entry)))) ⌝ }
 {
     line_number(session_in(state).line_rate())
 }
 
 // How often the message under way was resent.
 pub fn resent(state: &[u8]) -> u32
-    ensures { λ r. ⌜ r ≡ phaseRepeats (sessionIn (now (state .entry)) .phase) ⌝ }
+    ensures { λ r. ⌜ r ≡ sessionRepeats (sessionIn (now (state .entry))) ⌝ }
 {
     session_in(state).resent()
 }

@@ -1,6 +1,6 @@
 // A session read from bytes, each number at its place.
 ghost use mathlib.Core.Path.{_≡_};
-ghost use Rattle.kept_host.specs.Kept.{rateIn, startIn, sameIn, stageOf, stageIn, planIn, phaseIn, fieldsIn};
+ghost use Rattle.kept_host.specs.Kept.{rateIn, startIn, sameIn, stageOf, stageIn, planIn, kindPhase, phaseIn, fieldsIn};
 use crate::record;
 use host::Phase;
 use host::Session;
@@ -32,18 +32,30 @@ fn phase_in(known: Known, state: &[u8]) -> Phase
     ensures { λ r. ⌜ r ≡ phaseIn known (now (state .entry)) ⌝ }
 {
     match known {
-        Known::Is(kind) => {
-            let plan = plan_in(kind, state);
-            let stage = stage_in(state);
-            Phase::Waiting(Wait {
-                plan: plan,
-                stage: stage,
-                waited: octets::four_at(state, record::WAITED_PLACE),
-                repeats: octets::four_at(state, record::REPEATS_PLACE),
-            })
-        }
+        Known::Is(kind) => kind_phase(kind, state),
         Known::Unknown => Phase::Ended,
     }
+}
+
+// With a known type: ended at a rate, or waiting.
+fn kind_phase(kind: Kind, state: &[u8]) -> Phase
+    ensures { λ r. ⌜ r ≡ kindPhase kind (now (state .entry)) ⌝ }
+{
+    if octets::byte_at(state, record::STAGE_PLACE) as u32 == record::ENDED_STAGE {
+        let rate = rate_in(octets::byte_at(state, record::RATE_PLACE));
+        return Phase::EndedAt {
+            kind: kind,
+            rate: rate,
+        };
+    }
+    let plan = plan_in(kind, state);
+    let stage = stage_in(state);
+    Phase::Waiting(Wait {
+        plan: plan,
+        stage: stage,
+        waited: octets::four_at(state, record::WAITED_PLACE),
+        repeats: octets::four_at(state, record::REPEATS_PLACE),
+    })
 }
 
 fn plan_in(kind: Kind, state: &[u8]) -> Plan

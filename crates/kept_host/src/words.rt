@@ -1,6 +1,6 @@
 // The words of a session.
 ghost use mathlib.Core.Path.{_≡_};
-ghost use Rattle.kept_host.specs.Kept.{startNumber, sameNumber, stageAt, stageWords, waitWords, wordsOf};
+ghost use Rattle.kept_host.specs.Kept.{startNumber, sameNumber, stageAt, stageWords, waitWords, endedWords, wordsOf};
 use crate::record;
 use host::Phase;
 use host::Session;
@@ -24,27 +24,39 @@ pub(crate) fn words_of(session: Session) -> [u32; record::RECORD_WORDS]
 {
     let phase = session.phase;
     match phase {
-        Phase::Ended => [
-            flat::low(session.image),
-            flat::high(session.image),
-            0,
-            0,
-            record::ENDED_STAGE,
-            0,
-            0,
-            0,
-            0,
-            0,
-            0,
-            0,
-            0,
-            0,
-        ],
+        Phase::Ended => ended_words(session.image, 0, 0),
+        Phase::EndedAt { kind, rate } => ended_words(
+            session.image,
+            kinds::number_of(kind) as u32,
+            rate_number(rate) as u32,
+        ),
         Phase::Waiting(wait) => {
             let stage = wait.stage;
             wait_words(session.image, stage_words(stage), wait)
         }
     }
+}
+
+// The words of an ended session, with the type and the rate that it keeps.
+fn ended_words(image: usize, number: u32, rate: u32) -> [u32; record::RECORD_WORDS]
+    ensures { λ r. ⌜ r ≡ endedWords image number rate ⌝ }
+{
+    [
+        flat::low(image),
+        flat::high(image),
+        0,
+        0,
+        record::ENDED_STAGE,
+        number,
+        0,
+        rate,
+        0,
+        0,
+        0,
+        0,
+        0,
+        0,
+    ]
 }
 
 fn wait_words(image: usize, staged: Staged, wait: Wait) -> [u32; record::RECORD_WORDS]

@@ -3,7 +3,7 @@ use Prim.Native.Nat.{ℕ}
 use mathlib.Core.Bool.{Bool}
 use mathlib.Core.List.{List}
 use lib.Dec.{ltb}
-use Rattle.host_model.specs.Views.{phaseRepeats}
+use Rattle.host.specs.Session.{sessionRepeats}
 use Rattle.host.specs.declared.session.Session.{Session}
 use Rattle.host_model.specs.declared.events.Answer.{Answer}
 use Rattle.host_end.specs.HostEnd.{HostLeft, endOf, hostHears, hostWaits}
@@ -31,7 +31,7 @@ callerOf s = callerWith (endOf s) 0 0
 
 -- A message was resent: the session counts the repeats of the message under way, and the count has grown.
 abbrev pub again : Session → Session → Bool
-again before after = ltb (phaseRepeats (before .phase)) (phaseRepeats (after .phase))
+again before after = ltb (sessionRepeats before) (sessionRepeats after)
 
 -- What a step of the end leaves.
 unfoldable pub calledStep : Caller → HostStep → CallerStep

@@ -1,7 +1,7 @@
 // What a caller reads from a waiting session, and the rate that a failed one keeps.
 ghost use mathlib.Core.Path.{_≡_};
 ghost use Rattle.pieces.specs.Pieces.{countOf};
-ghost use Rattle.host_model.specs.Views.{progressOf, stageProgress, stageRate, endedWith, failedPhase};
+ghost use Rattle.host_model.specs.Views.{progressOf, stageProgress, stageRate, endedAtRate, failedPhase};
 use host_model::LineRate;
 use host_model::Phase;
 use host_model::Progress;
@@ -69,13 +69,13 @@ pub fn failed_phase(phase: Phase) -> Phase
             let plan = wait.plan;
             let stage = wait.stage;
             let kind = plan.kind;
-            ended_with(kind, stage_rate(stage))
+            ended_at_rate(kind, stage_rate(stage))
         }
     }
 }
 
-fn ended_with(kind: Kind, line: LineRate) -> Phase
-    ensures { λ r. ⌜ r ≡ endedWith kind line ⌝ }
+fn ended_at_rate(kind: Kind, line: LineRate) -> Phase
+    ensures { λ r. ⌜ r ≡ endedAtRate kind line ⌝ }
 {
     match line {
         LineRate::AsItWas => Phase::Ended,

@@ -1,7 +1,7 @@
 -- `line_number`: as it was, or the rate that was agreed.
 use borrow.Author.Needs.{needs}
 use mathlib.Core.Path.{sym, ap, _∙_}
-use Rattle.kept_host.specs.Kept.{lineNumber}
+use Rattle.host_model.specs.Views.{lineNumber}
 use Rattle.kept_host.proofs.answers.line_number.Statement.{statement}
 use Rattle.kept_host.proofs.answers.line_number.Tie as tie
 

@@ -1,9 +1,9 @@
 -- `line_rate`: of the session kept.
 use borrow.Author.Needs.{needs}
 use mathlib.Core.Path.{ap, _∙_}
-use Rattle.host_model.specs.Views.{phaseRate}
+use Rattle.host_model.specs.Views.{lineNumber}
+use Rattle.host.specs.Session.{sessionRate}
 use Rattle.host.specs.declared.session.Session.{Session}
-use Rattle.kept_host.specs.Kept.{lineNumber}
 use Rattle.kept_host.proofs.calls.line_rate.Statement.{statement}
 use Rattle.kept_host.proofs.calls.line_rate.Tie as tie
 
@@ -20,7 +20,7 @@ returns : tie.Need-returns
 returns c =
     c .line-number .ensures
     ∙ ap lineNumber (c .before .line-rate .ensures)
-    ∙ ap (λ (s : Session). lineNumber (phaseRate (s .phase))) (c .before .before .session-in .ensures)
+    ∙ ap (λ (s : Session). lineNumber (sessionRate s)) (c .before .before .session-in .ensures)
 
 pub line-rate-spec : {M : Type 1} → statement M
 line-rate-spec =

@@ -1,8 +1,7 @@
 -- `resent`: of the session kept.
 use borrow.Author.Needs.{needs}
 use mathlib.Core.Path.{ap, _∙_}
-use Rattle.host_model.specs.Views.{phaseRepeats}
-use Rattle.host.specs.declared.session.Session.{Session}
+use Rattle.host.specs.Session.{sessionRepeats}
 use Rattle.kept_host.proofs.calls.resent.Statement.{statement}
 use Rattle.kept_host.proofs.calls.resent.Tie as tie
 
@@ -13,7 +12,7 @@ resent-requires : tie.Need-resent-requires
 resent-requires c κs = search needs
 
 returns : tie.Need-returns
-returns c = c .resent .ensures ∙ ap (λ (s : Session). phaseRepeats (s .phase)) (c .before .session-in .ensures)
+returns c = c .resent .ensures ∙ ap sessionRepeats (c .before .session-in .ensures)
 
 pub resent-spec : {M : Type 1} → statement M
 resent-spec = tie.close (tie.spec session-in-requires resent-requires returns)
