@@ -85,6 +85,7 @@ module _ (kind : Kind) (w : Wishes) (image before : List ℕ) where
   host-more : (b c : Bool) (sent more : List Frame) → (b ≡ true → c ≡ true) → ((f : Frame) → List·Memᴰ f sent → List·Memᴰ f more)
       → (phase : host-phase.Phase) → HostStands kind w image b sent phase → HostStands kind w image c more phase
   host-more b c sent more up there host-at.Ended h = tt
+  host-more b c sent more up there (host-at.EndedAt type at) h = tt
   host-more b c sent more up there (host-at.Waiting wait) h = (h .0, stage-more b c sent more up there (wait .stage) (h .1))
 
   -- ---- one step, on what is given

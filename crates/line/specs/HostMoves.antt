@@ -34,13 +34,16 @@ use Rattle.host.specs.Step.{Wishes, Left, left, planOf, waitingOf}
 use Rattle.host.specs.StepLaws.{arisen, step-phase}
 use Rattle.host_promises.specs.Runs.{Given, leaves, sentBy}
 use Rattle.host_model.specs.Events.{countIn}
+use Rattle.host_model.specs.Views.{stageRate, endedAtRate}
+use Rattle.host_model.specs.declared.views.LineRate.{LineRate}
+use Rattle.host_model.specs.declared.views.LineRate.the-variants.{AsItWas, Agreed}
 use Rattle.host_promises.specs.Arises.{step-arises, arises-wait}
 use Rattle.host_promises.specs.Turns.{every-turn}
 use Rattle.host_promises.specs.Promises.{Hears, Follows, started, agreed, lowered, declared, continued, noticed}
 use Rattle.host_promises.specs.Promises.{Awaits, Message, again, onward, restart, Turn, sends, no-room, gives-up, too-many, awaits, finishes, waits, passed-over}
 use Rattle.host_model.specs.declared.waits.Wait.{Wait}
 use Rattle.host_model.specs.declared.waits.Phase.{Phase}
-use Rattle.host_model.specs.declared.waits.Phase.the-variants.{Ended, Waiting}
+use Rattle.host_model.specs.declared.waits.Phase.the-variants.{Ended, EndedAt, Waiting}
 use Rattle.host.specs.declared.session.Session.{Session}
 use Rattle.host_model.specs.declared.events.Event.{Event}
 use Rattle.host_model.specs.declared.events.Answer.{Answer}
@@ -171,6 +174,11 @@ module _ (kind : Kind) (w : Wishes) (image : List ℕ) where
           let s = rw here at (at .1) in rw next (s .0, s .1)
       follows stage (noticed r size here hears next) = rw next (from _ hears)
 
+      -- A load that failed has ended, whatever rate it keeps.
+      rate-stands : (type : Kind) (line : LineRate) → HostStands kind w image (h .begun) (j .from-board) (endedAtRate type line)
+      rate-stands type AsItWas = tt
+      rate-stands type (Agreed at) = tt
+
       -- A message is sent.
       sends-stands : (message : List ℕ) (next : Session) (answer : Answer) → Message wait g message next answer
           → now ≡ left (stepped next answer) (over message output) → Stand kind w image before (hostTakes j now)
@@ -199,7 +207,7 @@ module _ (kind : Kind) (w : Wishes) (image : List ℕ) where
           let x = left (stepped next answer) (over message output) in
           let told : heardIn (sentBy x) ≡ heardIn (wireOf restartFrame) =
           sent-message next answer message output (ap countIn answer-is) ∙ ap heardIn is in
-          stood x e (ap (λ (s : Session). s .image) next-is) (rw next-is tt)
+          stood x e (ap (λ (s : Session). s .image) next-is) (rw next-is (rate-stands (wait .plan .kind) (stageRate (wait .stage))))
           (λ f m. stand.restart (only-one f restartFrame (omega arith) (rw told at m)))
 
       -- Any turn.
@@ -237,6 +245,8 @@ module _ (kind : Kind) (w : Wishes) (image : List ℕ) where
         go : (phase : Phase) → j .host .phase ≡ phase → Stand kind w image before (hostTakes j now)
         go Ended e =
             still _ (step-phase (j .host) event bytes image output (sym (h .same-image)) (h .sound) Ended e) (h .same-image) (h .host-at) refl
+        go (EndedAt type at) e =
+            still _ (step-phase (j .host) event bytes image output (sym (h .same-image)) (h .sound) (EndedAt type at) e) (h .same-image) (h .host-at) refl
         go (Waiting wait) e = turn-stands wait e (every-turn (j .host) wait g (ready wait e))
 
     pub done-noticed : isDone (now .answer) ≡ true → HasNotice (j .host)
@@ -245,4 +255,6 @@ module _ (kind : Kind) (w : Wishes) (image : List ℕ) where
         go : (phase : Phase) → j .host .phase ≡ phase → HasNotice (j .host)
         go Ended e =
             absurd (false≢true (rw (step-phase (j .host) event bytes image output (sym (h .same-image)) (h .sound) Ended e) at d))
+        go (EndedAt type at) e =
+            absurd (false≢true (rw (step-phase (j .host) event bytes image output (sym (h .same-image)) (h .sound) (EndedAt type at) e) at d))
         go (Waiting wait) e = turn-done wait e (every-turn (j .host) wait g (ready wait e)) d

@@ -21,7 +21,7 @@ use Rattle.module_model.specs.declared.phases.Phase.the-variants.{Closed, Ready
 use Rattle.host.specs.Session.{arises}
 use Rattle.host.specs.Step.{Wishes, planOf}
 use Rattle.host_model.specs.declared.waits.Phase as host-phase
-use Rattle.host_model.specs.declared.waits.Phase.the-variants.{Ended, Waiting}
+use Rattle.host_model.specs.declared.waits.Phase.the-variants.{Ended, EndedAt, Waiting}
 use Rattle.line.specs.Joined.{Joined}
 use Rattle.line.specs.Filled.{Filled, Kept}
 
@@ -52,6 +52,7 @@ module _ (kind : Kind) (w : Wishes) (image : List ℕ) where
 
   abbrev pub HostStands : Bool → List Frame → host-phase.Phase → Type 0
   HostStands begun sent Ended = Unit
+  HostStands begun sent (EndedAt type at) = Unit
   HostStands begun sent (Waiting wait) = (wait .plan ≡ planOf kind w) × StageStands begun sent (wait .stage)
 
   -- Where the module stands once it has begun: at this transfer, in pieces of the load's size.

@@ -26,7 +26,7 @@ use Rattle.module_model.specs.declared.events.Event.the-variants as module-even
 use Rattle.host.specs.Step as host-step
 use Rattle.host.specs.Step.{Wishes, openingOf}
 use Rattle.host_model.specs.declared.waits.Phase.{Phase}
-use Rattle.host_model.specs.declared.waits.Phase.the-variants.{Ended, Waiting}
+use Rattle.host_model.specs.declared.waits.Phase.the-variants.{Ended, EndedAt, Waiting}
 use Rattle.host_model.specs.declared.events.Event.the-variants as host-event
 use Rattle.host_model.specs.declared.events.Answer.the-variants.{Done}
 use Rattle.board_end.specs.Board as board
@@ -53,6 +53,7 @@ phase-count : (s : HostSession) (phase : Phase) (command n : ℕ) (payload image
     → host-step.phaseStep s phase (host-event.Frame command n) payload image output
     ≡ host-step.phaseStep s phase (host-event.Frame command (length payload)) payload image output
 phase-count s Ended command n payload image output h = refl
+phase-count s (EndedAt kind rate) command n payload image output h = refl
 phase-count s (Waiting w) command n payload image output h = rw (take-all n payload h, take-length payload)
 
 host-count : (s : HostSession) (command n : ℕ) (payload image output : List ℕ) → length payload ≤ n

@@ -56,6 +56,10 @@ pub fn show_session(session: Session) {
     let phase = session.phase;
     match phase {
         Phase::Ended => console::say(b"ended"),
+        Phase::EndedAt { .. } => {
+            console::say(b"ended");
+            line_rate(session);
+        }
         Phase::Waiting(wait) => {
             let stage = wait.stage;
             awaited(stage);
