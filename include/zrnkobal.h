@@ -49,7 +49,8 @@ extern "C" {
  * waited ms, repeats.
  * Stage: 0 ended, 1 awaits the answer to the start text, 2 to the rate, 3 to the parameters, 4 to a packet, 5 the notice, 6 the answer
  * to the restart. Wish, type, first rate, start, same, waited, repeats: from stage 1 on. Rate: the one asked for at stage 2, the
- * agreed one from 3 on. Size: from 4 on. Number of the packet under way: 4 only. What a stage does not have is 0.
+ * agreed one from 3 on. Size: from 4 on. Number of the packet under way: 4 only. What a stage does not have is 0. A session that ended
+ * with 21 or 22 once a rate was agreed keeps type and rate: its restart frame goes out at that rate (zrn_host_line_rate).
  * Bytes that are the record of no session, or of one that could not arise, are taken as an ended session over the image length that
  * stands in them (a byte past their end counts as 0), and are left as they are. */
 #define ZRN_HOST_BYTES 56
@@ -153,7 +154,8 @@ bool zrn_host_can_arise(const uint8_t *state, size_t state_length);
 /* Packets accepted, as the answer, and packets in all; both 0 before the piece size is set and once the session has ended. */
 size_t zrn_host_progress(const uint8_t *state, size_t state_length, size_t *total);
 
-/* The rate that the line should have now, 1 to 5; 0 as it was. */
+/* The rate that the line should have now, 1 to 5; 0 as it was. Set it before what the last call wrote is sent, the restart frame of 21
+ * and 22 too. */
 uint8_t zrn_host_line_rate(const uint8_t *state, size_t state_length);
 
 /* How often the message under way was resent. */

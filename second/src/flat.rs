@@ -1,6 +1,6 @@
 //! The calls of the C header over plain bytes and numbers. Records are decoded to the library's own types, stepped, and encoded.
 
-use crate::host::{self, Answer, Course, Event, Rate, SameVersion, Stage, Wishes};
+use crate::host::{self, Answer, Course, Event, Parting, Rate, SameVersion, Stage, Wishes};
 use crate::kind::Kind;
 use crate::module::{self, Parameters, Phase};
 use crate::reader::{Reader, Step};
@@ -308,6 +308,16 @@ fn module_phase(numbers: [u32; MODULE_NUMBERS]) -> Option<Phase> {
     }
 }
 
+fn parting_numbers(parting: &Parting) -> [u32; HOST_NUMBERS] {
+    let mut numbers = [0; HOST_NUMBERS];
+    (numbers[1], numbers[3]) = (u32::from(parting.kind.number()), u32::from(parting.rate.number()));
+    numbers
+}
+
+fn host_parting(numbers: [u32; HOST_NUMBERS]) -> Option<Parting> {
+    Some(Parting { kind: Kind::from_number(u16::try_from(numbers[1]).ok()?)?, rate: rate_of(numbers[3])? })
+}
+
 /// The session of a record; bytes that are no record, or one that could not arise, are a closed session over the length in them.
 fn decode_module(state: &[u8]) -> module::Session {
     let flash_length = get8(state, MODULE_FLASH);
@@ -434,16 +444,19 @@ fn host_course(piece: u64, numbers: [u32; HOST_NUMBERS]) -> Option<Course> {
 fn decode_host(state: &[u8]) -> host::Session {
     let image_length = get8(state, HOST_IMAGE);
     let (piece, numbers) = (get8(state, HOST_WISH), row(state, HOST_ROW));
-    let session = || {
-        let course = host_course(piece, numbers).filter(|course| host_numbers(course) == (piece, numbers))?;
-        let session = host::Session { image_length, course: Some(course) };
-        (state.len() >= HOST_BYTES && session.could_arise()).then_some(session)
-    };
-    session().unwrap_or(host::Session::ended(image_length))
+    let course = host_course(piece, numbers).filter(|course| host_numbers(course) == (piece, numbers));
+    let parting = host_parting(numbers).filter(|parting| piece == 0 && parting_numbers(parting) == numbers);
+    let session = host::Session { image_length, course, parting };
+    if state.len() >= HOST_BYTES && session.could_arise() {
+        session
+    } else {
+        host::Session::ended(image_length)
+    }
 }
 
 fn encode_host(session: &host::Session, state: &mut [u8]) {
-    let (piece, numbers) = session.course.as_ref().map_or((0, [0; HOST_NUMBERS]), host_numbers);
+    let parted = || (0, session.parting.as_ref().map_or([0; HOST_NUMBERS], parting_numbers));
+    let (piece, numbers) = session.course.as_ref().map_or_else(parted, host_numbers);
     put8(state, HOST_IMAGE, session.image_length);
     put8(state, HOST_WISH, piece);
     put_row(state, HOST_ROW, &numbers);

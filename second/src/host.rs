@@ -78,11 +78,20 @@ pub struct Course {
     pub repeats: u32,
 }
 
+/// What a load that the module refused keeps: the agreed rate, at which its restart frame goes out.
+#[derive(Clone, Copy, Debug, PartialEq, Eq)]
+pub struct Parting {
+    pub kind: Kind,
+    pub rate: Rate,
+}
+
 #[derive(Clone, Copy, Debug, PartialEq, Eq)]
 pub struct Session {
     pub image_length: u64,
     /// None: the session has ended.
     pub course: Option<Course>,
+    /// Only of an ended session.
+    pub parting: Option<Parting>,
 }
 
 #[derive(Clone, Copy, Debug)]
@@ -130,6 +139,17 @@ impl Stage {
         match self {
             Stage::Notice { .. } => NOTICE_LIMIT,
             _ => ANSWER_LIMIT,
+        }
+    }
+
+    /// The rate of the line, once one is agreed.
+    fn agreed(&self) -> Option<Rate> {
+        match *self {
+            Stage::StartText | Stage::Rate(_) => None,
+            Stage::Parameters(rate)
+            | Stage::Packet { rate, .. }
+            | Stage::Notice { rate, .. }
+            | Stage::Restart { rate, .. } => Some(rate),
         }
     }
 }
@@ -278,7 +298,7 @@ impl Course {
 
 impl Session {
     pub fn ended(image_length: u64) -> Session {
-        Session { image_length, course: None }
+        Session { image_length, course: None, parting: None }
     }
 
     /// "Opening tests the type (6), 8, then 2, and writes the first text or frame." The type is a number here because it is tested.
@@ -293,7 +313,7 @@ impl Session {
     ) -> (Session, Result<usize, Refusal>) {
         let image_length = image.len() as u64;
         match begin(number, first, piece, start_text, same, image, out) {
-            Ok((course, count)) => (Session { image_length, course: Some(course) }, Ok(count)),
+            Ok((course, count)) => (Session { image_length, course: Some(course), parting: None }, Ok(count)),
             Err(refusal) => (Session::ended(image_length), Err(refusal)),
         }
     }
@@ -301,7 +321,7 @@ impl Session {
     /// Whether the session's numbers can arise from an opening.
     pub fn could_arise(&self) -> bool {
         let Some(course) = self.course else {
-            return true;
+            return self.parting.is_none() || image_length_allowed(self.image_length);
         };
         let Course { wishes, stage, waited, repeats } = course;
         let sized = |size: u32| {
@@ -356,6 +376,9 @@ impl Session {
             Reaction::ModuleRefused(ack) => (None, Answer::ModuleRefused { ack, count: write_restart(out)? }),
             Reaction::BadNotice(state) => (None, Answer::BadNotice { state, count: write_restart(out)? }),
         };
+        if matches!(answer, Answer::ModuleRefused { .. } | Answer::BadNotice { .. }) {
+            self.parting = course.stage.agreed().map(|rate| Parting { kind: course.wishes.kind, rate });
+        }
         self.course = next;
         Ok(answer)
     }
@@ -372,12 +395,9 @@ impl Session {
 
     /// The rate that the line should have now, once one is agreed.
     pub fn line_rate(&self) -> Option<Rate> {
-        match self.course?.stage {
-            Stage::StartText | Stage::Rate(_) => None,
-            Stage::Parameters(rate)
-            | Stage::Packet { rate, .. }
-            | Stage::Notice { rate, .. }
-            | Stage::Restart { rate, .. } => Some(rate),
+        match self.course {
+            Some(course) => course.stage.agreed(),
+            None => self.parting.map(|parting| parting.rate),
         }
     }
 

@@ -27,7 +27,11 @@ fn genuine(rng: &mut Rng) -> Fields {
     let length = 4 * rng.pick(&[1, 2, 25, 256, 257, 2_000, 65_534, 65_535]) as u64;
     let stage = rng.below(7) as u32;
     if stage == 0 {
-        return ([length, 0], [0; 10]);
+        let mut numbers = [0; 10];
+        if rng.percent(70) {
+            (numbers[1], numbers[3]) = (rng.between(1, 3) as u32, rng.between(1, 5) as u32);
+        }
+        return ([length, 0], numbers);
     }
     let least = length.div_ceil(65_535);
     let wish = match rng.below(6) {

@@ -116,6 +116,18 @@ fn refused_rate_goes_lower_and_then_gives_21() {
     assert_eq!(bench.give(0x01, &[1, 1]), Answer::ModuleRefused { ack: 1, count: 7 });
     assert_eq!(bench.sent, frame(0x06, &[]));
     assert_eq!(bench.session.course, None);
+    assert_eq!(bench.session.line_rate(), None);
+}
+
+#[test]
+fn restart_of_a_refused_load_goes_out_at_the_agreed_rate() {
+    let mut bench = Bench::plain(4, 4);
+    bench.give(0x01, &[5, 0]);
+    assert_eq!(bench.give(0x02, &[0, 4, 2]), Answer::ModuleRefused { ack: 2, count: 7 });
+    assert_eq!(bench.session.course, None);
+    assert_eq!(bench.session.line_rate(), Some(Rate::B115200));
+    assert!(bench.session.could_arise());
+    assert_eq!(bench.give(0x02, &[0, 4, 2]), Answer::Nothing);
 }
 
 #[test]
