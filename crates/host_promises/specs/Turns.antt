@@ -5,7 +5,7 @@ use mathlib.Core.List.{List, [], _∷_, _++_}
 use mathlib.Core.Path.{_≡_, refl, sym, ap, ap₂, _∙_}
 use native.Mathlib.Decide.{decLe, decLt, ℕ-discrete}
 use native.Mathlib.Omega.{arith}
-use borrow.Author.Tests.{lt-ltb, le-ltb, ltb-true, ltb-false, eqb-true, eqb-false, le-leb, leb-true, leb-false}
+use borrow.Author.Tests.{ltb-true, ltb-false, eqb-true, eqb-false, le-leb, leb-true, leb-false}
 use lib.Dec.{eqb, ltb, leb}
 use lib.ListN.{length, take, getD}
 use lib.Seq.{take-at}
@@ -13,7 +13,7 @@ use Rattle.octets.specs.Octets.{Bytes, little, spelled, numberAt, sameBytes, ov
 use Rattle.octets.specs.OctetsLaws.{little-spelled, spelled-little, length-spelled, same-true, same-refl}
 use Rattle.octets.specs.PartLaws.{number-short}
 use Rattle.octets.specs.Lists.{bytes-take}
-use Rattle.octets.specs.Choice.{cond-yes, cond-no, either-way, both}
+use Rattle.octets.specs.Choice.{either-way, both}
 use Rattle.refusals.specs.Refusals.{noAnswer, moduleRefused}
 use Rattle.pieces.specs.Pieces.{countOf}
 use Rattle.wire.specs.Frame.{Frame, wireOf}

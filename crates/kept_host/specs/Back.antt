@@ -6,7 +6,7 @@ use mathlib.Core.Path.{_≡_, refl, ap, ap₂, _∙_}
 use native.Mathlib.Omega.{arith}
 use lib.ListN.{length}
 use Rattle.octets.specs.Choice.{cond-yes}
-use Rattle.octets.specs.Octets.{little, spelled, numberAt, over}
+use Rattle.octets.specs.Octets.{spelled, numberAt, over}
 use Rattle.octets.specs.OctetsLaws.{little-spelled}
 use Rattle.kinds.specs.Kinds.{kindOf, numberOf}
 use Rattle.kinds.specs.KindsLaws.{kind-of-number, kind-spelled}

@@ -30,7 +30,7 @@ use Rattle.host_model.specs.declared.views.LineRate.the-variants.{AsItWas, Agre
 use Rattle.host_model.specs.Nexts.{resendNext, timeNext, planNext}
 use Rattle.host.specs.Session.{arises}
 use Rattle.host.specs.Step.{Left, Wishes, sends, endedOf, performs, resends, moved, timeStep, eventStep, phaseStep, stepOf}
-use Rattle.host.specs.Step.{planOf, knownOpening, openingOf}
+use Rattle.host.specs.Step.{knownOpening, openingOf}
 use Rattle.host_promises.specs.Runs.{Given, leaves, afterOf}
 use Rattle.host_promises.specs.Arises.{step-arises, reached-arises}
 use Rattle.host_model.specs.declared.nexts.Next.{Next}

@@ -5,7 +5,7 @@ use mathlib.Core.List.{List, [], _∷_, _++_, append-nil, List·Memᴰ·head}
 use mathlib.Core.Path.{_≡_, refl, sym, ap, _∙_}
 use native.Mathlib.Omega.{arith}
 use lib.Dec.{eqb}
-use lib.ListN.{length, take}
+use lib.ListN.{length}
 use lib.Seq.{take-all, take-length}
 use Rattle.octets.specs.Octets.{Bytes}
 use Rattle.octets.specs.Choice.{either-way}
@@ -20,11 +20,10 @@ use Rattle.reader.specs.declared.steps.Reader.{Reader}
 use Rattle.reader.specs.declared.steps.Heard.{Heard}
 use Rattle.reader.specs.declared.steps.Heard.the-variants.{Nothing, Frame as Whole, Dropped}
 use Rattle.module.specs.Step as module-step
-use Rattle.module_promises.specs.Runs.{heardIn}
 use Rattle.module_promises.specs.RunsLaws.{heard-nothing}
 use Rattle.module_model.specs.declared.events.Event.the-variants as module-event
 use Rattle.host.specs.Step as host-step
-use Rattle.host.specs.Step.{Wishes, openingOf}
+use Rattle.host.specs.Step.{openingOf}
 use Rattle.host_model.specs.declared.waits.Phase.{Phase}
 use Rattle.host_model.specs.declared.waits.Phase.the-variants.{Ended, EndedAt, Waiting}
 use Rattle.host_model.specs.declared.events.Event.the-variants as host-event
@@ -32,7 +31,6 @@ use Rattle.host_model.specs.declared.events.Answer.the-variants.{Done}
 use Rattle.board_end.specs.Board as board
 use Rattle.host_end.specs.HostEnd as end
 use Rattle.host_end.specs.Text.{followed}
-use Rattle.board_end.specs.declared.board.Board.{Board}
 use Rattle.line.specs.Joined.{ModuleSession, HostSession, Joined, Move, board-hears, board-waits, board-opens, host-hears, host-reads, host-waits}
 use Rattle.line.specs.Joined.{May, after, afterAll, Allowed, boardGets, hostGets, boardTakes, hostTakes}
 use Rattle.line.specs.Steps.{each-append, may-append}

@@ -18,3 +18,7 @@ pub mod Readings
 pub mod Tiny
 pub mod Wrong
 pub mod WrongNever
+pub mod IdleSum
+pub mod OnlyMoves
+pub mod RefusedWhen
+pub mod WrongRules

@@ -2,9 +2,11 @@
 use Prim.Native.Nat.{ℕ, zero, suc, _+_, _-_, _^_, _≤_, _<_}
 use mathlib.Core.Bool.{true, false, cond}
 use mathlib.Core.List.{List, [], _∷_, _++_, List·Memᴰ}
+use mathlib.Core.Logic.{_⊎_}
 use mathlib.Core.Path.{_≡_}
 use lib.ListN.{length, getD, take}
 use Rattle.octets.specs.Octets.{Bytes, numberAt, laid}
+use Rattle.refusals.specs.Refusals.{noRoom, wrongLength}
 use Rattle.kinds.specs.Kinds.{kindOf, baseOf}
 use Rattle.kinds.specs.KindsLaws.{FitsFlash}
 use Rattle.kinds.specs.declared.Kind.{Kind}
@@ -325,3 +327,59 @@ ArisesReachedOf step = (s : Session) → arises s ≡ true → Reached step s
 
 abbrev pub ArisesReached : Type 0
 ArisesReached = ArisesReachedOf stepOf
+
+-- ---- M4, over a run
+
+-- What an event that was not refused makes of the idle sum: a frame sets it to 0, milliseconds are added.
+abbrev pub summed : ℕ → Event → ℕ
+summed sum (Frame command count) = 0
+summed sum (Elapsed ms) = sum + ms
+
+-- The milliseconds of the time events that were not refused, since the last frame that was not.
+abbrev pub idleOver : ℕ → List Exchange → ℕ
+idleOver sum [] = sum
+idleOver sum (x ∷ xs) = idleOver (cond (isRefused (x .left .answer)) sum (summed sum (x .given .event))) xs
+
+-- M4, over any run from any opening (IdleSum.antt): the idle sum of a session that is still open is just that.
+abbrev pub IdleCountsOf : Step → Type 0
+IdleCountsOf step =
+    (o : Opening) (gs : List Given) → takes (afterBy step (openedBy o) gs) ≡ true
+    → afterBy step (openedBy o) gs .idle ≡ idleOver 0 (runBy step (openedBy o) gs)
+
+abbrev pub IdleCounts : Type 0
+IdleCounts = IdleCountsOf stepOf
+
+-- ---- refusals 2 and 3
+
+-- 2 and 3 come exactly when the table says, 2 first, and no other number does.
+pub record Refuses (step : Step) (s : Session) (g : Given) : Type 0 where
+  pub two : exchangeBy step s g .left .answer ≡ Refused noRoom → length (g .reply) < smallestReply
+  pub two-when : length (g .reply) < smallestReply → exchangeBy step s g .left .answer ≡ Refused noRoom
+  pub three : exchangeBy step s g .left .answer ≡ Refused wrongLength
+      → (smallestReply ≤ length (g .reply)) × (length (g .flash) ≡ s .flash → ⊥)
+  pub three-when : smallestReply ≤ length (g .reply) → (length (g .flash) ≡ s .flash → ⊥)
+      → exchangeBy step s g .left .answer ≡ Refused wrongLength
+  pub no-other : (n : ℕ) → exchangeBy step s g .left .answer ≡ Refused n → (n ≡ noRoom) ⊎ (n ≡ wrongLength)
+
+-- For every event in every session, open, closed or such as could not arise (RefusedWhen.antt).
+abbrev pub RefusedExactlyOf : Step → Type 0
+RefusedExactlyOf step = (s : Session) (g : Given) → Refuses step s g
+
+abbrev pub RefusedExactly : Type 0
+RefusedExactly = RefusedExactlyOf stepOf
+
+-- ---- what moves a transfer
+
+-- What a step does to the phase: nothing; or its reply accepts parameters, or acknowledges a packet; or it closes.
+pub data Moves (step : Step) (s : Session) (g : Given) : Type 0 where
+  stays : nextBy step s g .phase ≡ s .phase → Moves step s g
+  begins : Says (exchangeBy step s g) (parametersReply largestPacket accepted) → Moves step s g
+  goes-on : (k : ℕ) → 1 ≤ k → Says (exchangeBy step s g) (packetReply k accepted) → Moves step s g
+  closes : isClosed (nextBy step s g .phase) ≡ true → Moves step s g
+
+-- A transfer moves only so, in every session and for every event (OnlyMoves.antt).
+abbrev pub OnlyMovesOf : Step → Type 0
+OnlyMovesOf step = (s : Session) (g : Given) → Bytes (g .payload) → Moves step s g
+
+abbrev pub OnlyMoves : Type 0
+OnlyMoves = OnlyMovesOf stepOf
