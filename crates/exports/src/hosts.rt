@@ -5,7 +5,7 @@ ghost use lib.ListN.{length};
 ghost use Rattle.host_model.specs.Views.{progressOf, lineNumber};
 ghost use Rattle.host.specs.Session.{sessionProgress, sessionRate, sessionRepeats};
 ghost use Rattle.host_model.specs.declared.events.Event.the-variants as Event;
-ghost use Rattle.kept_host.specs.Kept.{stands, sessionIn, lineNumber, opened, keptOpening, kept, keptStep};
+ghost use Rattle.kept_host.specs.Kept.{stands, sessionIn, opened, keptOpening, kept, keptStep};
 
 #[no_mangle]
 pub extern "C" fn zrn_host_open(

@@ -1,6 +1,6 @@
 -- The laws of Step.
 use Prim.Native.Nat.{ℕ, _≤_, _<_}
-use mathlib.Core.Bool.{Bool, true, false, cond}
+use mathlib.Core.Bool.{Bool, true, false, cond, false≢true}
 use mathlib.Core.List.{List}
 use mathlib.Core.Path.{_≡_, refl, sym, ap, ap₂, _∙_}
 use native.Mathlib.Omega.{arith}
@@ -20,7 +20,7 @@ use Rattle.host_model.specs.Messages.{sentOf}
 use Rattle.host.specs.Step.{Left, left, sends, performs, phaseStep, stepOf}
 use Rattle.host_model.specs.declared.waits.Wait.{Wait}
 use Rattle.host_model.specs.declared.waits.Phase.{Phase}
-use Rattle.host_model.specs.declared.waits.Phase.the-variants.{Ended, Waiting}
+use Rattle.host_model.specs.declared.waits.Phase.the-variants.{Ended, EndedAt, Waiting}
 use Rattle.host.specs.declared.session.Session.{Session}
 use Rattle.host_model.specs.declared.events.Event.{Event}
 use Rattle.host_model.specs.declared.events.Answer.the-variants.{Nothing, Refused}
@@ -61,7 +61,7 @@ module _ (s : Session) (message output : List ℕ) (answer : Written) (after : L
           let z : _≡_ {A = ℕ} 0 1 = cc in
           absurd (omega (arith, z))
 
--- ---- the ways of a step: 3, ended or not arisen, and the event
+-- ---- the ways of a step: 3, or by its phase
 
 -- A waiting session that arises could.
 pub arisen : (s : Session) (w : Wait) → arises s ≡ true → s .phase ≡ Waiting w → waitFits (s .image) w ≡ true
@@ -75,44 +75,12 @@ module _ (s : Session) (e : Event) (bytes image output : List ℕ) where
   unfolding stepOf
   step-wrong-length n = rw (ne-eqb (length image) (s .image) n)
 
-  -- A session that could not arise answers nothing.
-  pub step-not-arisen : length image ≡ s .image → arises s ≡ false → stepOf s e bytes image output ≡ left (stepped s Nothing) output
-  unfolding stepOf
-  step-not-arisen l a = rw (eq-eqb (length image) (s .image) l, a)
-
-  -- Any other goes by its phase.
+  -- One that could arise goes by its phase.
   pub step-phase : length image ≡ s .image → arises s ≡ true → (phase : Phase) → s .phase ≡ phase
       → stepOf s e bytes image output ≡ phaseStep s phase e bytes image output
   unfolding stepOf
   step-phase l a phase told =
       rw (eq-eqb (length image) (s .image) l, a) (ap (λ (p : Phase). phaseStep s p e bytes image output) told)
-
--- ---- a step by the phase and its numbers
-
-module _ (s : Session) (w : Wait) (image : List ℕ) (same : length image ≡ s .image) (told : s .phase ≡ Waiting w) where
-  -- A waiting session arises just where its numbers fit.
-  waits-arise : arises s ≡ waitFits (length image) w
-  unfolding arises
-  waits-arise = ap₂ phaseArises (sym same) told
-
-  -- Where they do, it takes the event; where they do not, it answers nothing.
-  pub step-waits : (e : Event) (bytes output : List ℕ) → waitFits (length image) w ≡ true
-      → stepOf s e bytes image output ≡ performs s (eventNext w (length image) e bytes) image output
-  step-waits e bytes output h = step-phase s e bytes image output same (waits-arise ∙ h) (Waiting w) told
-
-  pub step-never : (e : Event) (bytes output : List ℕ) → waitFits (length image) w ≡ false
-      → stepOf s e bytes image output ≡ left (stepped s Nothing) output
-  step-never e bytes output h = step-not-arisen s e bytes image output same (waits-arise ∙ h)
-
--- One whose phase answers nothing does, whether or not it could arise.
-pub step-over : (s : Session) (e : Event) (bytes image output : List ℕ) → length image ≡ s .image → (phase : Phase) → s .phase ≡ phase
-    → phaseStep s phase e bytes image output ≡ left (stepped s Nothing) output
-    → stepOf s e bytes image output ≡ left (stepped s Nothing) output
-unfolding stepOf
-step-over s e bytes image output same phase told none =
-    rw (eq-eqb (length image) (s .image) same)
-    (either-way (λ (x : Left). x ≡ left (stepped s Nothing) output) (arises s)
-    (λ _. ap (λ (p : Phase). phaseStep s p e bytes image output) told ∙ none) (λ _. refl))
 
 -- ---- how far a session is taken to be
 
@@ -123,6 +91,33 @@ taken-arisen s h = sym (cond-yes _ _ _ h)
 pub taken-never : (s : Session) → arises s ≡ false → Ended ≡ takenPhase s
 unfolding takenPhase
 taken-never s h = sym (cond-no _ _ _ h)
+
+-- Whether a phase waits.
+abbrev isWaiting : Phase → Bool
+isWaiting Ended = false
+isWaiting (EndedAt kind rate) = false
+isWaiting (Waiting w) = true
+
+-- One that is taken to wait has numbers that could arise.
+pub taken-waits : (s : Session) (w : Wait) → takenPhase s ≡ Waiting w → waitFits (s .image) w ≡ true
+unfolding takenPhase
+taken-waits s w =
+    either-way (λ (p : Phase). p ≡ Waiting w → waitFits (s .image) w ≡ true) (arises s)
+    (λ a told. arisen s w a told)
+    (λ a told. absurd (false≢true (ap isWaiting told)))
+
+-- A step goes by that phase.
+pub step-taken : (s : Session) (e : Event) (bytes image output : List ℕ) → length image ≡ s .image → (phase : Phase)
+    → takenPhase s ≡ phase → stepOf s e bytes image output ≡ phaseStep s phase e bytes image output
+unfolding stepOf takenPhase
+step-taken s e bytes image output same phase told =
+    rw (eq-eqb (length image) (s .image) same)
+    (choose (arises s) ∙ ap (λ (p : Phase). phaseStep s p e bytes image output) told)
+  where
+    choose : (t : Bool) → cond t (phaseStep s (s .phase) e bytes image output) (left (stepped s Nothing) output)
+        ≡ phaseStep s (cond t (s .phase) Ended) e bytes image output
+    choose true = refl
+    choose false = refl
 
 -- ---- room
 

@@ -2,9 +2,9 @@
 ghost use mathlib.Core.Path.{_≡_};
 ghost use Rattle.host_model.specs.NextsLaws.{SmallNext};
 ghost use Rattle.host_model.specs.StagesLaws.{Small};
-ghost use Rattle.host_model.specs.Views.{progressOf};
+ghost use Rattle.host_model.specs.Views.{progressOf, endedAtRate};
 ghost use Rattle.host_model.specs.declared.nexts.Next.the-variants.{Sends, Fails};
-ghost use Rattle.host_model.specs.declared.waits.Phase.the-variants.{Waiting};
+ghost use Rattle.host_model.specs.declared.waits.Phase.the-variants.{EndedAt, Waiting};
 ghost use Rattle.host.specs.Session.{session, stepped, arises, takenPhase, sessionProgress, sessionRate, sessionRepeats};
 ghost use Rattle.host.specs.Step.{left, endedOf, failedOf, performs, stepOf, openingOf};
 use crate::messages::send;
@@ -20,6 +20,7 @@ use host_model::Rate;
 use host_model::Same;
 use host_model::Start;
 use host_model::Wait;
+use kinds::Kind;
 use kinds::Known;
 use refusals::Written;
 
@@ -74,14 +75,11 @@ impl Session {
         if image.len() != self.image {
             return self.answers(Answer::Refused(refusals::WRONG_LENGTH));
         }
-        let phase = self.phase;
+        let phase = self.taken();
         match phase {
             Phase::Ended => self.answers(Answer::Nothing),
             Phase::EndedAt { .. } => self.answers(Answer::Nothing),
             Phase::Waiting(wait) => {
-                if !waits::wait_fits(image.len(), wait) {
-                    return self.answers(Answer::Nothing);
-                }
                 let next = waits::event_next(wait, image.len(), event, bytes);
                 self.performs(next, image, out)
             }
@@ -134,22 +132,19 @@ impl Session {
     pub fn can_arise(self) -> bool
         ensures { λ r. ⌜ r ≡ arises self ⌝ }
     {
-        let phase = self.phase;
-        match phase {
-            Phase::Ended => true,
-            Phase::EndedAt { kind, rate } => waits::loadable(kind, self.image),
-            Phase::Waiting(wait) => waits::wait_fits(self.image, wait),
-        }
+        let own = self.phase;
+        waits::phase_arises(self.image, own)
     }
 
     // How far the session is taken to be.
     fn taken(self) -> Phase
         ensures { λ r. ⌜ r ≡ takenPhase self ⌝ }
     {
-        if !self.can_arise() {
+        let phase = self.phase;
+        if !waits::phase_arises(self.image, phase) {
             return Phase::Ended;
         }
-        self.phase
+        phase
     }
 
     // What follows is done.
@@ -200,10 +195,15 @@ impl Session {
         ensures { λ r. ⌜ r ≡ failedOf self image ⌝ }
     {
         let phase = self.phase;
-        let ended = waits::failed_phase(phase);
-        Session {
-            image: image,
-            phase: ended,
+        match phase {
+            Phase::Ended => over(image),
+            Phase::EndedAt { kind, rate } => over_at(image, kind, rate),
+            Phase::Waiting(wait) => {
+                let plan = wait.plan;
+                let stage = wait.stage;
+                let kind = plan.kind;
+                over_with(image, kind, waits::stage_rate(stage))
+            }
         }
     }
 
@@ -241,5 +241,26 @@ fn over(image: usize) -> Session
     Session {
         image: image,
         phase: Phase::Ended,
+    }
+}
+
+fn over_with(image: usize, kind: Kind, line: LineRate) -> Session
+    ensures { λ r. ⌜ r ≡ session image (endedAtRate kind line) ⌝ }
+{
+    match line {
+        LineRate::AsItWas => over(image),
+        LineRate::Agreed(rate) => over_at(image, kind, rate),
+    }
+}
+
+fn over_at(image: usize, kind: Kind, rate: Rate) -> Session
+    ensures { λ r. ⌜ r ≡ session image (EndedAt kind rate) ⌝ }
+{
+    Session {
+        image: image,
+        phase: Phase::EndedAt {
+            kind: kind,
+            rate: rate,
+        },
     }
 }

@@ -5,8 +5,6 @@ mod waits;
 
 pub use nexts::event_next;
 pub use nexts::plan_next;
-pub use views::failed_phase;
 pub use views::stage_progress;
 pub use views::stage_rate;
-pub use waits::loadable;
-pub use waits::wait_fits;
+pub use waits::phase_arises;

@@ -1,12 +1,10 @@
-// What a caller reads from a waiting session, and the rate that a failed one keeps.
+// What a caller reads from a waiting session.
 ghost use mathlib.Core.Path.{_≡_};
 ghost use Rattle.pieces.specs.Pieces.{countOf};
-ghost use Rattle.host_model.specs.Views.{progressOf, stageProgress, stageRate, endedAtRate, failedPhase};
+ghost use Rattle.host_model.specs.Views.{progressOf, stageProgress, stageRate};
 use host_model::LineRate;
-use host_model::Phase;
 use host_model::Progress;
 use host_model::Stage;
-use kinds::Kind;
 
 // Packets accepted and in all.
 pub fn stage_progress(stage: Stage, image: usize) -> Progress
@@ -52,36 +50,5 @@ pub fn stage_rate(stage: Stage) -> LineRate
         Stage::Sending { rate, size, number } => LineRate::Agreed(rate),
         Stage::Noticing { rate, size } => LineRate::Agreed(rate),
         Stage::Restarting { rate, size } => LineRate::Agreed(rate),
-    }
-}
-
-// How a load ends whose restart frame is sent with 21 or 22: the session keeps the rate that this frame goes out at.
-pub fn failed_phase(phase: Phase) -> Phase
-    ensures { λ r. ⌜ r ≡ failedPhase phase ⌝ }
-{
-    match phase {
-        Phase::Ended => Phase::Ended,
-        Phase::EndedAt { kind, rate } => Phase::EndedAt {
-            kind: kind,
-            rate: rate,
-        },
-        Phase::Waiting(wait) => {
-            let plan = wait.plan;
-            let stage = wait.stage;
-            let kind = plan.kind;
-            ended_at_rate(kind, stage_rate(stage))
-        }
-    }
-}
-
-fn ended_at_rate(kind: Kind, line: LineRate) -> Phase
-    ensures { λ r. ⌜ r ≡ endedAtRate kind line ⌝ }
-{
-    match line {
-        LineRate::AsItWas => Phase::Ended,
-        LineRate::Agreed(rate) => Phase::EndedAt {
-            kind: kind,
-            rate: rate,
-        },
     }
 }

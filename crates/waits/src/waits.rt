@@ -1,6 +1,7 @@
 // How long and how often a message is awaited, and which numbers of a waiting session could arise.
 ghost use mathlib.Core.Path.{_≡_};
-ghost use Rattle.host_model.specs.Waits.{mostRepeats, limitOf, wait, firstStage, loadable, waitFits};
+ghost use Rattle.host_model.specs.Waits.{mostRepeats, limitOf, wait, firstStage, loadable, waitFits, phaseArises};
+use host_model::Phase;
 use host_model::Plan;
 use host_model::Rate;
 use host_model::Stage;
@@ -16,8 +17,19 @@ const NOTICE_LIMIT: u32 = 5000;
 // How often one message is resent.
 pub(crate) const MOST_REPEATS: u32 = 3;
 
-// Whether a waiting session over an image of this length could arise.
-pub fn wait_fits(image: usize, wait: Wait) -> bool
+// Whether a session over an image of this length could arise in this phase.
+pub fn phase_arises(image: usize, phase: Phase) -> bool
+    ensures { λ r. ⌜ r ≡ phaseArises image phase ⌝ }
+{
+    match phase {
+        Phase::Ended => true,
+        Phase::EndedAt { kind, rate } => loadable(kind, image),
+        Phase::Waiting(wait) => wait_fits(image, wait),
+    }
+}
+
+// Whether a waiting one could.
+fn wait_fits(image: usize, wait: Wait) -> bool
     ensures { λ r. ⌜ r ≡ waitFits image wait ⌝ }
 {
     let plan = wait.plan;
@@ -36,7 +48,7 @@ pub fn wait_fits(image: usize, wait: Wait) -> bool
 }
 
 // What can be loaded.
-pub fn loadable(kind: Kind, image: usize) -> bool
+pub(crate) fn loadable(kind: Kind, image: usize) -> bool
     ensures { λ r. ⌜ r ≡ loadable kind image ⌝ }
 {
     kinds::fits_file(kind, image)

@@ -1,18 +1,21 @@
 -- `Session::taken`: ended where the numbers could not arise.
 use borrow.Author.Needs.{needs}
 use Rattle.octets.specs.Choice.{passed, failed}
+use Rattle.host.specs.Session.{arises}
 use Rattle.host.specs.StepLaws.{taken-arisen, taken-never}
 use Rattle.host.proofs.session.Session.taken.Statement.{statement}
 use Rattle.host.proofs.session.Session.taken.Tie as tie
 
-can-arise-requires : tie.Need-can-arise-requires
-can-arise-requires c κs = search needs
+phase-arises-requires : tie.Need-phase-arises-requires
+phase-arises-requires c κs = search needs
 
 returns : tie.Need-returns
-returns c = taken-never (c .before .before .args .self) (failed (c .before .can-arise .ensures) (c .if1 .taken))
+unfolding arises
+returns c = taken-never (c .before .before .args .self) (failed (c .before .phase-arises .ensures) (c .if1 .taken))
 
 returns-2 : tie.Need-returns-2
-returns-2 c = taken-arisen (c .before .before .args .self) (passed (c .before .can-arise .ensures) (c .if1 .left))
+unfolding arises
+returns-2 c = taken-arisen (c .before .before .args .self) (passed (c .before .phase-arises .ensures) (c .if1 .left))
 
 pub taken-spec : {M : Type 1} → statement M
-taken-spec = tie.close (tie.spec can-arise-requires returns returns-2)
+taken-spec = tie.close (tie.spec phase-arises-requires returns returns-2)
