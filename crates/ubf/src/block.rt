@@ -2,7 +2,7 @@
 ghost use mathlib.Core.Path.{_≡_};
 ghost use Prim.Native.Nat.{_-_, _<_};
 ghost use Rattle.octets.specs.Octets.{sameBytes, partOf, xorWords};
-ghost use Rattle.ubf_model.specs.Block.{headerSize, markIn, mark, startIn, modelIn, versionIn, nameIn, dateIn, textFits, textsFit, filledIn, sizeOf, kindBlock, blockOf};
+ghost use Rattle.ubf_model.specs.Block.{headerSize, markIn, mark, startIn, modelIn, versionIn, nameIn, dateIn, textFits, textsFit, filledIn, sizeOf, imageOf, kindBlock, blockOf};
 use kinds::Kind;
 use kinds::Known;
 use ubf_model::ADDRESS_PLACE;
@@ -44,8 +44,8 @@ fn read_kind(s: &[u8], kind: Kind) -> Found
     if octets::four_at(s, ADDRESS_PLACE) != kinds::base_of(kind) {
         return Found::Refused(refusals::WRONG_TYPE);
     }
-    let length = octets::four_at(s, LENGTH_PLACE);
-    let long = wide(length);
+    let extent = octets::four_at(s, LENGTH_PLACE);
+    let long = wide(extent);
     if !kinds::fits_file(kind, long) {
         return Found::Refused(refusals::WRONG_IMAGE_LENGTH);
     }
@@ -66,7 +66,7 @@ fn read_kind(s: &[u8], kind: Kind) -> Found
     }
     Found::Whole(Block {
         kind,
-        length,
+        extent,
         start,
         check,
     })
@@ -76,14 +76,14 @@ fn read_kind(s: &[u8], kind: Kind) -> Found
 pub fn size(block: Block) -> usize
     ensures { λ r. ⌜ r ≡ sizeOf block ⌝ }
 {
-    wide(block.start) + wide(block.length) + 4
+    wide(block.start) + wide(block.extent) + 4
 }
 
 // The image, as a part of the bytes that the block was read from.
 pub fn image(s: &[u8], block: Block) -> &[u8]
-    ensures { λ r. ⌜ now r ≡ partOf (now (s .entry)) (block .start) (block .length) ⌝ }
+    ensures { λ r. ⌜ now r ≡ imageOf block (now (s .entry)) ⌝ }
 {
-    octets::part(s, wide(block.start), wide(block.length))
+    octets::part(s, wide(block.start), wide(block.extent))
 }
 
 // The texts, each with the zeros that fill its field, as parts of the bytes.

@@ -82,11 +82,11 @@ fn type_pairs(number: u16, address: u32) -> bool
 }
 
 // Whether a type is known and may have an image of this length.
-fn image_fits(number: u16, length: usize) -> bool
-    ensures { λ r. ⌜ r ≡ fits (kindOf number) length ⌝ }
+fn image_fits(number: u16, extent: usize) -> bool
+    ensures { λ r. ⌜ r ≡ fits (kindOf number) extent ⌝ }
 {
     match kinds::kind_of(number) {
-        Known::Is(kind) => kinds::fits_file(kind, length),
+        Known::Is(kind) => kinds::fits_file(kind, extent),
         Known::Unknown => false,
     }
 }
@@ -125,9 +125,9 @@ fn lay_text(text: &[u8], n: usize, out: &mut [u8], at: usize)
     requires { ⌜ (length (now text) ≤ n) × (at + n ≤ length (now out)) ⌝ }
     ensures { λ _. ⌜ now (out .exit) ≡ laid (now (out .entry)) at (filled n (now (text .entry))) ⌝ }
 {
-    let length = text.len();
+    let text_length = text.len();
     octets::copy(text, out, at);
-    octets::fill(out, at + length, n - length, 0);
+    octets::fill(out, at + text_length, n - text_length, 0);
 }
 
 // Zeros up to the start, the image, and the check that is worked out from it.

@@ -49,12 +49,6 @@ block-of-good k s g =
       eq-eqb (checkIn s) (xorWords (imageIn s)) (g .checked),
     )
 
--- The length is tested before the start: one that does not fit is named, wherever the image starts.
-pub length-first : (k : Kind) (s : List ℕ) → addressIn s ≡ baseOf k → fitsFile k (lengthIn s) ≡ false
-    → kindBlock k s ≡ Refused wrongImageLength
-unfolding kindBlock
-length-first k s based unfit = rw (eq-eqb (addressIn s) (baseOf k) based, unfit)
-
 -- A block that was read has a kind, the facts hold, and its fields are those of the bytes.
 pub record ReadGood (s : List ℕ) (b : Block) : Type 0 where
   pub kind : Kind

@@ -3,3 +3,4 @@ pub mod Promises
 pub mod Laid
 pub mod ReadWritten
 pub mod WrittenRead
+pub mod PackedRead

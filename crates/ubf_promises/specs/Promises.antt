@@ -1,4 +1,5 @@
--- What UBF files promise, to be read without the proofs. Each statement is proved in the file named beside it.
+-- What UBF files promise, to be read without the proofs: of any writer, reader or walk, and of ours. Each statement is proved of ours in
+-- the file named beside it, and refuted for wrong programs in the files Wrong*.antt.
 use Prim.Native.Nat.{ℕ, _+_, _-_, _^_, _≤_, _<_}
 use mathlib.Core.Bool.{true}
 use mathlib.Core.List.{List, [], _∷_, _++_}
@@ -7,13 +8,35 @@ use lib.ListN.{length, take, drop}
 use Rattle.octets.specs.Octets.{Bytes, xorWords}
 use Rattle.kinds.specs.Kinds.{baseOf, numberOf, fitsFile}
 use Rattle.kinds.specs.declared.Kind.{Kind}
-use Rattle.refusals.specs.Written.{written}
-use Rattle.ubf_model.specs.Block.{headerSize, blockOf, sizeOf, addressIn, startIn, typeIn, modelIn, versionIn, nameIn, dateIn, imageIn}
+use Rattle.refusals.specs.Refusals.{fileEnds}
+use Rattle.refusals.specs.Written.{Out, bytesWritten, numberIn, countIn, written}
+use Rattle.ubf_model.specs.Answers.{blockTold, noneTold, foundTold, nthTold}
+use Rattle.ubf_model.specs.Block.{headerSize, blockOf, sizeOf, imageOf, modelIn, versionIn, nameIn, dateIn}
 use Rattle.ubf_model.specs.Block.{modelSize, versionSize, nameSize, dateSize}
 use Rattle.ubf_model.specs.Pack.{Fields, filled, blockBytes, bytesOf, textsIn, packOf}
-use Rattle.ubf_model.specs.Walk.{Standing, Ending, whole, fault, walkOf}
+use Rattle.ubf_model.specs.Walk.{Standing, Ending, whole, fault, Walked, ends, walkOf, blockAt}
 use Rattle.ubf_model.specs.declared.block.Block.{Block}
-use Rattle.ubf_model.specs.declared.block.Found.the-variants.{Whole, Refused}
+use Rattle.ubf_model.specs.declared.block.Found.{Found}
+use Rattle.ubf_model.specs.declared.block.Found.the-variants.{Whole}
+use Rattle.ubf_model.specs.declared.walk.Nth.{Nth}
+
+-- ---- writers and readers
+
+-- A writer is given fields and an output.
+abbrev pub Writer : Type 0
+Writer = Fields → List ℕ → Out
+
+-- A reader is given bytes that a block begins: the block, its texts, and the image of the block that it found.
+pub record Reader : Type 0 where
+  pub block : List ℕ → Found
+  pub model : List ℕ → List ℕ
+  pub version : List ℕ → List ℕ
+  pub name : List ℕ → List ℕ
+  pub date : List ℕ → List ℕ
+  pub image : Block → List ℕ → List ℕ
+
+abbrev pub ourReader : Reader
+ourReader = record { block = blockOf; model = modelIn; version = versionIn; name = nameIn; date = dateIn; image = imageOf }
 
 -- Fields that pass the writer's tests for a kind: its number and address, an image that fits, a start behind the header that four
 -- bytes can spell, texts that fit.
@@ -26,43 +49,81 @@ pub record Packable (k : Kind) (f : Fields) : Type 0 where
   pub texts : textsIn f ≡ true
   pub image-bytes : Bytes (f .image)
 
--- U1, what is written (ReadWritten.antt). Such fields are written as their block, wherever the output has room.
-abbrev pub PackWrites : Type 0
-PackWrites =
+-- ---- U1
+
+-- What is written (ReadWritten.antt). Such fields are written as their block, wherever the output has room.
+abbrev pub PackWritesOf : Writer → Type 0
+PackWritesOf write =
     (k : Kind) (f : Fields) (output : List ℕ) → Packable k f → bytesOf f ≤ length output
-    → packOf f output ≡ written (blockBytes f) output
+    → write f output ≡ written (blockBytes f) output
 
--- What reading a block gives back of its fields.
-pub record ReadAs (k : Kind) (f : Fields) (s : List ℕ) : Type 0 where
-  pub fields : blockOf s ≡ Whole (record { kind = k; length = length (f .image); start = f .start; check = xorWords (f .image) })
-  pub model : modelIn s ≡ filled modelSize (f .model)
-  pub version : versionIn s ≡ filled versionSize (f .version)
-  pub name : nameIn s ≡ filled nameSize (f .name)
-  pub date : dateIn s ≡ filled dateSize (f .date)
-  pub image : imageIn s ≡ f .image
+abbrev pub PackWrites : Type 0
+PackWrites = PackWritesOf packOf
 
--- U1 (ReadWritten.antt). What was written is read again, whatever follows it: every field, the texts with their zeros, the image.
+-- The block that fields of a kind are.
+abbrev pub blockFor : Kind → Fields → Block
+blockFor k f = record { kind = k; extent = length (f .image); start = f .start; check = xorWords (f .image) }
+
+-- What reading a block gives back of its fields: a block of the kind with length, start and check of the image; the texts with their
+-- zeros; the image.
+pub record ReadAs (read : Reader) (k : Kind) (f : Fields) (s : List ℕ) : Type 0 where
+  pub fields : foundTold (read .block s) ≡ blockTold (blockFor k f) 0
+  pub model : read .model s ≡ filled modelSize (f .model)
+  pub version : read .version s ≡ filled versionSize (f .version)
+  pub name : read .name s ≡ filled nameSize (f .name)
+  pub date : read .date s ≡ filled dateSize (f .date)
+  pub image : (b : Block) → read .block s ≡ Whole b → read .image b s ≡ f .image
+
+-- What is read (ReadWritten.antt). A block is read again, whatever follows it.
+abbrev pub ReadWrittenOf : Reader → Type 0
+ReadWrittenOf read = (k : Kind) (f : Fields) (rest : List ℕ) → Packable k f → ReadAs read k f (blockBytes f ++ rest)
+
 abbrev pub ReadWritten : Type 0
-ReadWritten = (k : Kind) (f : Fields) (rest : List ℕ) → Packable k f → ReadAs k f (blockBytes f ++ rest)
+ReadWritten = ReadWrittenOf ourReader
 
--- The fields of a block as the file has them.
-abbrev pub fieldsIn : List ℕ → Fields
-fieldsIn s = record {
-  number = typeIn s;
-  address = addressIn s;
-  start = startIn s;
-  model = modelIn s;
-  version = versionIn s;
-  name = nameIn s;
-  date = dateIn s;
-  image = imageIn s;
+-- What a writer that answers so many bytes owes: they are the block's, which its reader reads back, whatever follows it; type and
+-- address are those of a kind; and the output past them is as lent.
+pub record PackedAs (read : Reader) (f : Fields) (output : List ℕ) (count : ℕ) (left : List ℕ) : Type 0 where
+  pub kind : Kind
+  pub numbered : f .number ≡ numberOf kind
+  pub based : f .address ≡ baseOf kind
+  pub counted : count ≡ bytesOf f
+  pub reads : (rest : List ℕ) → ReadAs read kind f (take count left ++ rest)
+  pub past : drop count left ≡ drop count output
+
+-- What was accepted (PackedRead.antt). Whatever fields a writer accepts, of all that the types give, it has written as the block that
+-- is read back.
+abbrev pub PackedReadOf : Writer → Reader → Type 0
+PackedReadOf write read =
+    (f : Fields) (output : List ℕ) → f .start < 2 ^ 32 → Bytes (f .image)
+    → let o = write f output in numberIn (o .answer) ≡ bytesWritten → PackedAs read f output (countIn (o .answer)) (o .output)
+
+abbrev pub PackedRead : Type 0
+PackedRead = PackedReadOf packOf ourReader
+
+-- The fields of a block that was read.
+abbrev pub fieldsRead : Reader → Block → List ℕ → Fields
+fieldsRead read b s = record {
+  number = numberOf (b .kind);
+  address = baseOf (b .kind);
+  start = b .start;
+  model = read .model s;
+  version = read .version s;
+  name = read .name s;
+  date = read .date s;
+  image = read .image b s;
 }
 
--- U1, the way back (WrittenRead.antt). What was read is written again as the same bytes, wherever the output has room.
+-- The way back (WrittenRead.antt). What was read is written again as the same bytes, wherever the output has room.
+abbrev pub WrittenReadOf : Writer → Reader → Type 0
+WrittenReadOf write read =
+    (s : List ℕ) (b : Block) → Bytes s → read .block s ≡ Whole b
+    → (output : List ℕ) → sizeOf b ≤ length output → write (fieldsRead read b s) output ≡ written (take (sizeOf b) s) output
+
 abbrev pub WrittenRead : Type 0
-WrittenRead =
-    (s : List ℕ) (b : Block) → Bytes s → blockOf s ≡ Whole b
-    → (output : List ℕ) → sizeOf b ≤ length output → packOf (fieldsIn s) output ≡ written (take (sizeOf b) s) output
+WrittenRead = WrittenReadOf packOf ourReader
+
+-- ---- U2
 
 -- The blocks stand one behind the other from a place on, each read at its place, up to an end.
 abbrev pub LaidOut : List ℕ → ℕ → List Standing → ℕ → Type 0
@@ -75,9 +136,20 @@ LaidOut file from (b ∷ bs) end =
 abbrev pub EndsFrom : List ℕ → ℕ → List Standing → Ending → Type 0
 EndsFrom file from bs whole = LaidOut file from bs (length file) × (0 < length file)
 EndsFrom file from bs (fault number place) =
-    LaidOut file from bs place × (blockOf (drop place file) ≡ Refused number) × (place ≤ length file - 1)
+    LaidOut file from bs place × (foundTold (blockOf (drop place file)) ≡ noneTold number 0 0) × (place ≤ length file - 1)
 
 -- U2 (Laid.antt). The walk's blocks, laid end to end, are the file; or the first faulty block's number and place are given, and the
 -- blocks before it are right. No good file is called faulty at its end, and an empty one is not whole.
+abbrev pub WalkLaidOf : (List ℕ → Walked) → Type 0
+WalkLaidOf walk = (file : List ℕ) → EndsFrom file 0 (walk file .blocks) (walk file .ending)
+
 abbrev pub WalkLaid : Type 0
-WalkLaid = (file : List ℕ) → EndsFrom file 0 (walkOf file .blocks) (walkOf file .ending)
+WalkLaid = WalkLaidOf walkOf
+
+-- An empty file is refused with 4 (Laid.antt): a walk over it finds no block and ends with 4 at place 0, and whichever block is asked
+-- for, the answer is 4 at place 0, with no block before it.
+abbrev pub EmptyFileOf : (List ℕ → Walked) → (ℕ → List ℕ → Nth) → Type 0
+EmptyFileOf walk nth = (walk [] ≡ ends (fault fileEnds 0)) × ((n : ℕ) → nthTold (nth n []) ≡ noneTold fileEnds 0 0)
+
+abbrev pub EmptyFile : Type 0
+EmptyFile = EmptyFileOf walkOf blockAt

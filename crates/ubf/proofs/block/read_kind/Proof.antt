@@ -146,7 +146,7 @@ unfolding kindBlock
 returns-7 c =
     (λ i. Whole (record {
       kind = c .before .before .before .before .before .before .before .before .before .before .before .before .before .before .before .before .before .args .kind;
-      length = c .before .before .before .before .before .before .before .before .before .before .before .before .four-at2 .ensures i;
+      extent = c .before .before .before .before .before .before .before .before .before .before .before .before .four-at2 .ensures i;
       start = c .before .before .before .before .before .before .before .before .four-at3 .ensures i;
       check = check-is (c .before .before) i;
     }))

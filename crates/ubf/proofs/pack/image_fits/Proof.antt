@@ -19,10 +19,10 @@ enum-told c = search needs
 
 returns : tie.Need-returns
 returns c =
-    c .fits-file .ensures ∙ ap (λ k. fits k (c .before .before .before .before .before .args .length)) (sym (c .before .before .kind .given .1) ∙ c .before .before .before .before .kind-of .ensures)
+    c .fits-file .ensures ∙ ap (λ k. fits k (c .before .before .before .before .before .args .extent)) (sym (c .before .before .kind .given .1) ∙ c .before .before .before .before .kind-of .ensures)
 
 returns-2 : tie.Need-returns-2
-returns-2 c = ap (λ k. fits k (c .before .before .before .args .length)) (sym (c .enum-told .given .1) ∙ c .before .before .kind-of .ensures)
+returns-2 c = ap (λ k. fits k (c .before .before .before .args .extent)) (sym (c .enum-told .given .1) ∙ c .before .before .kind-of .ensures)
 
 pub image-fits-spec : {M : Type 1} → statement M
 image-fits-spec =
