@@ -4,3 +4,7 @@ pub mod Laid
 pub mod ReadWritten
 pub mod WrittenRead
 pub mod PackedRead
+pub mod Tiny
+pub mod WrongWriter
+pub mod WrongReader
+pub mod WrongWalk
