@@ -93,7 +93,8 @@ abbrev numberOfTold : Told → ℕ
 numberOfTold t = t .number
 
 pub checks-bytes-refuted : ReadWrittenOf checksBytes → ⊥
-unfolding kindOf fitsFile blockBytes filled spelled partOf numberAt little sameBytes xorFrom xorWordsFrom filledIn textsFit textFits zeroFilled textLength allZero
+unfolding kindOf fitsFile blockBytes filled spelled partOf numberAt little sameBytes xorFrom xorWordsFrom filledIn textsFit textFits
+    zeroFilled textLength allZero
 checks-bytes-refuted promise =
     let r = promise Upgrade tiny [] tiny-packable in
     let wrong : wrongImageCheck ≡ blockFound = ap numberOfTold (r .fields) in
@@ -107,7 +108,8 @@ abbrev otherMark : List ℕ
 otherMark = laid (blockBytes tiny) 1 (0x55 ∷ [])
 
 pub any-mark-refuted : WrittenReadOf packOf anyMark → ⊥
-unfolding packOf kindOf fitsFile blockBytes filled spelled over laid partOf numberAt little sameBytes xorWordsFrom filledIn textsFit textFits zeroFilled textLength allZero
+unfolding packOf kindOf fitsFile blockBytes filled spelled over laid partOf numberAt little sameBytes xorWordsFrom filledIn textsFit
+    textFits zeroFilled textLength allZero
 any-mark-refuted promise =
     let e = promise otherMark (blockFor Upgrade tiny) (bytes-of otherMark refl) refl lent (omega arith) in
     let wrong : _≡_ {A = ℕ} 0x54 0x55 = ap (λ (o : Out). getD (o .output) 1 0) e in
@@ -124,7 +126,8 @@ abbrev earlyBlock : List ℕ
 earlyBlock = take 207 (blockBytes early) ++ drop 208 (blockBytes early)
 
 pub starts-at-207-refuted : WrittenReadOf packOf startsAt207 → ⊥
-unfolding packOf kindOf fitsFile blockBytes filled spelled over partOf numberAt little sameBytes xorWordsFrom filledIn textsFit textFits zeroFilled textLength allZero
+unfolding packOf kindOf fitsFile blockBytes filled spelled over partOf numberAt little sameBytes xorWordsFrom filledIn textsFit textFits
+    zeroFilled textLength allZero
 starts-at-207-refuted promise =
     let e = promise earlyBlock (blockFor Upgrade early) (bytes-of earlyBlock refl) refl lent (omega arith) in
     let wrong : wrongStart ≡ bytesWritten = ap (λ (o : Out). numberIn (o .answer)) e in
@@ -135,7 +138,8 @@ abbrev pub anyText : Reader
 anyText = readerBy (record { marked = marksAT; starts = startsFrom headerSize; zeros = λ (s : List ℕ). true; checked = checksWords })
 
 pub any-text-refuted : WrittenReadOf packOf anyText → ⊥
-unfolding packOf kindOf fitsFile blockBytes filled spelled over partOf numberAt little sameBytes xorWordsFrom textsFit textFits zeroFilled textLength allZero
+unfolding packOf kindOf fitsFile blockBytes filled spelled over partOf numberAt little sameBytes xorWordsFrom textsFit textFits zeroFilled
+    textLength allZero
 any-text-refuted promise =
     let e = promise (blockBytes broken) (blockFor Upgrade broken) (bytes-of (blockBytes broken) refl) refl lent (omega arith) in
     let wrong : notZeroFilled ≡ bytesWritten = ap (λ (o : Out). numberIn (o .answer)) e in

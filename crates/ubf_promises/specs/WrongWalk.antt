@@ -28,7 +28,8 @@ abbrev pub losesLast : List ℕ → Walked
 losesLast file = record { blocks = butLast (walkOf file .blocks); ending = walkOf file .ending }
 
 pub loses-last-refuted : WalkLaidOf losesLast → ⊥
-unfolding walkFrom walkBy kindOf fitsFile blockBytes filled spelled partOf numberAt little sameBytes xorWordsFrom blockOf kindBlock filledIn textsFit textFits zeroFilled textLength allZero
+unfolding walkFrom walkBy kindOf fitsFile blockBytes filled spelled partOf numberAt little sameBytes xorWordsFrom blockOf kindBlock
+    filledIn textsFit textFits zeroFilled textLength allZero
 loses-last-refuted promise =
     let all = promise (blockBytes tiny) in
     let wrong : 0 ≡ tinySize = all .0 in
@@ -43,7 +44,8 @@ countsFromFile zero place s = ends whole
 countsFromFile (suc most) place s = walkOn (countsFromFile most) (fromFile place s) place s
 
 pub counts-from-file-refuted : WalkLaidOf (λ (file : List ℕ). countsFromFile (suc (length file)) 0 file) → ⊥
-unfolding kindOf fitsFile blockBytes filled spelled partOf numberAt little sameBytes xorWordsFrom blockOf kindBlock filledIn textsFit textFits zeroFilled textLength allZero
+unfolding kindOf fitsFile blockBytes filled spelled partOf numberAt little sameBytes xorWordsFrom blockOf kindBlock filledIn textsFit
+    textFits zeroFilled textLength allZero
 counts-from-file-refuted promise =
     let all = promise (blockBytes tiny ++ blockBytes tiny) in
     let wrong : blockFound ≡ wrongStart = ap (λ (t : Told). t .number) (all .1) in

@@ -41,7 +41,8 @@ skipsTexts f output =
     (written (blockBytes f) output))))
 
 pub skips-texts-refuted : PackedReadOf skipsTexts ourReader → ⊥
-unfolding kindOf fitsFile blockBytes filled spelled over partOf numberAt little sameBytes xorWordsFrom blockOf kindBlock filledIn textsFit textFits zeroFilled textLength allZero
+unfolding kindOf fitsFile blockBytes filled spelled over partOf numberAt little sameBytes xorWordsFrom blockOf kindBlock filledIn textsFit
+    textFits zeroFilled textLength allZero
 skips-texts-refuted promise =
     let p = promise broken lent (omega arith) (tiny-packable .image-bytes) refl in
     let wrong : notZeroFilled ≡ blockFound = ap numberOfTold (p .reads [] .fields) in
@@ -54,7 +55,8 @@ checksBytes f output =
     record { answer = o .answer; output = laid (o .output) (f .start + length (f .image)) (spelled 4 (xorOf (f .image))) }
 
 pub checks-bytes-refuted : PackedReadOf checksBytes ourReader → ⊥
-unfolding packOf kindOf fitsFile blockBytes filled spelled over laid xorFrom partOf numberAt little sameBytes xorWordsFrom blockOf kindBlock filledIn textsFit textFits zeroFilled textLength allZero
+unfolding packOf kindOf fitsFile blockBytes filled spelled over laid xorFrom partOf numberAt little sameBytes xorWordsFrom blockOf
+    kindBlock filledIn textsFit textFits zeroFilled textLength allZero
 checks-bytes-refuted promise =
     let p = promise tiny lent (omega arith) (tiny-packable .image-bytes) refl in
     let wrong : wrongImageCheck ≡ blockFound = ap numberOfTold (p .reads [] .fields) in
@@ -111,7 +113,8 @@ startsBehindHeader f output = packOf (record {
 }) output
 
 pub starts-behind-header-refuted : WrittenReadOf startsBehindHeader ourReader → ⊥
-unfolding packOf kindOf fitsFile blockBytes filled spelled over partOf numberAt little sameBytes xorWordsFrom blockOf kindBlock filledIn textsFit textFits zeroFilled textLength allZero
+unfolding packOf kindOf fitsFile blockBytes filled spelled over partOf numberAt little sameBytes xorWordsFrom blockOf kindBlock filledIn
+    textsFit textFits zeroFilled textLength allZero
 starts-behind-header-refuted promise =
     let e = promise (blockBytes apart) (blockFor Upgrade apart) (bytes-of (blockBytes apart) refl) refl lent (omega arith) in
     let wrong : _≡_ {A = ℕ} 216 220 = ap (λ (o : Out). countIn (o .answer)) e in
