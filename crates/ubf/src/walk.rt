@@ -3,8 +3,8 @@ ghost use mathlib.Core.Path.{_≡_};
 ghost use Prim.Native.Nat.{_+_, _^_, _≤_, _<_};
 ghost use lib.ListN.{length};
 ghost use Rattle.ubf_model.specs.Walk.{blockAt, nthFrom};
-use crate::block::read;
-use crate::block::size;
+use ubf_block::read;
+use ubf_block::size;
 use ubf_model::Found;
 use ubf_model::Nth;
 

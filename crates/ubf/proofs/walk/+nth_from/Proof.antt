@@ -15,8 +15,8 @@ use Rattle.ubf.proofs.walk.nth_from.Reads as nth-from
 use Rattle.ubf.proofs.walk.nth_from.Kinds as nth-from-kinds
 use Rattle.ubf.proofs.walk.+nth_from.Lts-nth_from as nth-from-lts
 use Rattle.octets.proofs.behind.Reads as behind-reads
-use Rattle.ubf.proofs.block.read.Reads as read-reads
-use Rattle.ubf.proofs.block.size.Reads as size-reads
+use Rattle.ubf_block.proofs.read.Reads as read-reads
+use Rattle.ubf_block.proofs.size.Reads as size-reads
 use Rattle.ubf.proofs.walk.+nth_from.{statement}
 use Rattle.ubf.proofs.walk.+nth_from.Tie.{close}
 
