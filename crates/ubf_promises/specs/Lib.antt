@@ -4,6 +4,7 @@ pub mod Laid
 pub mod ReadWritten
 pub mod WrittenRead
 pub mod PackedRead
+pub mod Refused
 pub mod Tiny
 pub mod WrongWriter
 pub mod WrongReader

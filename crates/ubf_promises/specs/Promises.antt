@@ -1,19 +1,22 @@
 -- What UBF files promise, to be read without the proofs: of any writer, reader or walk, and of ours. Each statement is proved of ours in
 -- the file named beside it, and refuted for wrong programs in the files Wrong*.antt.
 use Prim.Native.Nat.{ℕ, _+_, _-_, _^_, _≤_, _<_}
-use mathlib.Core.Bool.{true}
+use mathlib.Core.Bool.{Bool, true, cond}
 use mathlib.Core.List.{List, [], _∷_, _++_}
 use mathlib.Core.Path.{_≡_}
+use lib.Dec.{eqb, leb}
 use lib.ListN.{length, take, drop}
-use Rattle.octets.specs.Octets.{Bytes, xorWords}
-use Rattle.kinds.specs.Kinds.{baseOf, numberOf, fitsFile}
+use Rattle.octets.specs.Octets.{Bytes, sameBytes, xorWords}
+use Rattle.kinds.specs.Kinds.{kindOf, baseOf, numberOf, fitsFile}
 use Rattle.kinds.specs.declared.Kind.{Kind}
-use Rattle.refusals.specs.Refusals.{fileEnds}
+use Rattle.kinds.specs.declared.Known.{Known}
+use Rattle.refusals.specs.Refusals.{noRoom, fileEnds, wrongMark, wrongType, wrongStart, wrongImageLength, notZeroFilled, wrongImageCheck}
 use Rattle.refusals.specs.Written.{Out, bytesWritten, numberIn, countIn, written}
-use Rattle.ubf_model.specs.Answers.{blockTold, noneTold, foundTold, nthTold}
+use Rattle.ubf_model.specs.Answers.{blockFound, blockTold, noneTold, foundTold, nthTold}
 use Rattle.ubf_model.specs.Block.{headerSize, blockOf, sizeOf, imageOf, modelIn, versionIn, nameIn, dateIn}
+use Rattle.ubf_model.specs.Block.{markIn, mark, lengthIn, addressIn, startIn, typeIn, imageIn, checkIn, filledIn}
 use Rattle.ubf_model.specs.Block.{modelSize, versionSize, nameSize, dateSize}
-use Rattle.ubf_model.specs.Pack.{Fields, filled, blockBytes, bytesOf, textsIn, packOf}
+use Rattle.ubf_model.specs.Pack.{Fields, filled, blockBytes, bytesOf, textsIn, pairs, fits, packOf}
 use Rattle.ubf_model.specs.Walk.{Standing, Ending, whole, fault, Walked, ends, walkOf, blockAt}
 use Rattle.ubf_model.specs.declared.block.Block.{Block}
 use Rattle.ubf_model.specs.declared.block.Found.{Found}
@@ -122,6 +125,56 @@ WrittenReadOf write read =
 
 abbrev pub WrittenRead : Type 0
 WrittenRead = WrittenReadOf packOf ourReader
+
+-- ---- refusals
+
+-- Tests with their numbers, in order: the number of the first that fails, or another where all hold.
+abbrev pub firstFailing : List (ℕ × Bool) → ℕ → ℕ
+firstFailing [] passing = passing
+firstFailing (t ∷ ts) passing = cond (t .1) (firstFailing ts passing) (t .0)
+
+-- The checks of a block behind its mark: type and address, image length, CS, image and check there, zeros, check.
+abbrev pub typeChecks : Known → List ℕ → List (ℕ × Bool)
+typeChecks type s =
+    (wrongType, pairs type (addressIn s))
+    ∷ (wrongImageLength, fits type (lengthIn s))
+    ∷ (wrongStart, leb headerSize (startIn s))
+    ∷ (fileEnds, leb (startIn s + lengthIn s + 4) (length s))
+    ∷ (notZeroFilled, filledIn s)
+    ∷ (wrongImageCheck, eqb (checkIn s) (xorWords (imageIn s)))
+    ∷ []
+
+-- All of them: header there, mark, and those.
+abbrev pub blockChecks : List ℕ → List (ℕ × Bool)
+blockChecks s = (fileEnds, leb headerSize (length s)) ∷ (wrongMark, sameBytes (markIn s) mark) ∷ typeChecks (kindOf (typeIn s)) s
+
+-- Which bytes are refused, and with which number (Refused.antt).
+abbrev pub ReadRefusedOf : Reader → Type 0
+ReadRefusedOf read = (s : List ℕ) → foundTold (read .block s) .number ≡ firstFailing (blockChecks s) blockFound
+
+abbrev pub ReadRefused : Type 0
+ReadRefused = ReadRefusedOf ourReader
+
+-- The tests of the writer: the same but for mark, gap and what the file must hold; then the room.
+abbrev pub fieldTests : Fields → List ℕ → List (ℕ × Bool)
+fieldTests f output =
+    (wrongType, pairs (kindOf (f .number)) (f .address))
+    ∷ (wrongImageLength, fits (kindOf (f .number)) (length (f .image)))
+    ∷ (wrongStart, leb headerSize (f .start))
+    ∷ (notZeroFilled, textsIn f)
+    ∷ (noRoom, leb (bytesOf f) (length output))
+    ∷ []
+
+-- Which fields are refused, and with which number; a refusal leaves the output as lent (Refused.antt).
+abbrev pub PackRefusedOf : Writer → Type 0
+PackRefusedOf write =
+    (f : Fields) (output : List ℕ)
+    → let o = write f output in
+    (numberIn (o .answer) ≡ firstFailing (fieldTests f output) bytesWritten)
+    × ((numberIn (o .answer) ≡ bytesWritten → ⊥) → o .output ≡ output)
+
+abbrev pub PackRefused : Type 0
+PackRefused = PackRefusedOf packOf
 
 -- ---- U2
 

@@ -11,6 +11,7 @@ use Rattle.octets.specs.Choice.{both}
 use Rattle.octets.specs.Octets.{Bytes, textLength, zeroFilled, allZero}
 use Rattle.kinds.specs.Kinds.{fitsFile}
 use Rattle.kinds.specs.declared.Kind.the-variants.{Upgrade}
+use Rattle.ubf_model.specs.Answers.{Told}
 use Rattle.ubf_model.specs.Block.{headerSize, textFits, textsFit}
 use Rattle.ubf_model.specs.Pack.{Fields}
 use Rattle.ubf_promises.specs.Promises.{Packable}
@@ -54,6 +55,10 @@ tiny-packable = record {
   texts = refl;
   image-bytes = (omega arith, (omega arith, (omega arith, (omega arith, tt))));
 }
+
+-- The number of what is told.
+abbrev pub toldNumber : Told → ℕ
+toldNumber t = t .number
 
 -- Numbers that are tested one by one are bytes.
 abbrev pub allBytes : List ℕ → Bool

@@ -12,14 +12,11 @@ use Rattle.refusals.specs.Refusals.{noRoom, wrongType, wrongStart, wrongImageLe
 use Rattle.refusals.specs.Written.{Out, bytesWritten, numberIn, countIn, written}
 use Rattle.refusals.specs.declared.Written.{Written}
 use Rattle.refusals.specs.declared.Written.the-variants.{Count, Refused}
-use Rattle.ubf_model.specs.Answers.{Told, blockFound}
-use Rattle.ubf_model.specs.Block.{headerSize, blockOf, kindBlock, filledIn, textFits, textsFit}
+use Rattle.ubf_model.specs.Answers.{blockFound}
+use Rattle.ubf_model.specs.Block.{headerSize, mark, blockOf, kindBlock, filledIn, textFits, textsFit}
 use Rattle.ubf_model.specs.Pack.{Fields, filled, blockBytes, bytesOf, pairs, fits, unlessOut, packOf}
-use Rattle.ubf_promises.specs.Promises.{Writer, ourReader, blockFor, PackWritesOf, PackedReadOf, WrittenReadOf}
-use Rattle.ubf_promises.specs.Tiny.{apart, tiny, tinySize, broken, tiny-packable, bytes-of, lent}
-
-abbrev numberOfTold : Told → ℕ
-numberOfTold t = t .number
+use Rattle.ubf_promises.specs.Promises.{Writer, ourReader, blockFor, PackWritesOf, PackedReadOf, WrittenReadOf, PackRefusedOf}
+use Rattle.ubf_promises.specs.Tiny.{apart, tiny, tinySize, broken, tiny-packable, toldNumber, bytes-of, lent}
 
 -- Our writer, but an output of just the size is refused.
 abbrev pub sparesRoom : Writer
@@ -45,7 +42,7 @@ unfolding kindOf fitsFile blockBytes filled spelled over partOf numberAt little 
     textFits zeroFilled textLength allZero
 skips-texts-refuted promise =
     let p = promise broken lent (omega arith) (tiny-packable .image-bytes) refl in
-    let wrong : notZeroFilled ≡ blockFound = ap numberOfTold (p .reads [] .fields) in
+    let wrong : notZeroFilled ≡ blockFound = ap toldNumber (p .reads [] .fields) in
     omega (arith, wrong)
 
 -- Our writer, but the check is the xor of bytes and not of words.
@@ -59,7 +56,7 @@ unfolding packOf kindOf fitsFile blockBytes filled spelled over laid xorFrom par
     kindBlock filledIn textsFit textFits zeroFilled textLength allZero
 checks-bytes-refuted promise =
     let p = promise tiny lent (omega arith) (tiny-packable .image-bytes) refl in
-    let wrong : wrongImageCheck ≡ blockFound = ap numberOfTold (p .reads [] .fields) in
+    let wrong : wrongImageCheck ≡ blockFound = ap toldNumber (p .reads [] .fields) in
     omega (arith, wrong)
 
 -- Our writer, but another count is reported.
@@ -118,4 +115,27 @@ unfolding packOf kindOf fitsFile blockBytes filled spelled over partOf numberAt 
 starts-behind-header-refuted promise =
     let e = promise (blockBytes apart) (blockFor Upgrade apart) (bytes-of (blockBytes apart) refl) refl lent (omega arith) in
     let wrong : _≡_ {A = ℕ} 216 220 = ap (λ (o : Out). countIn (o .answer)) e in
+    omega (arith, wrong)
+
+-- Our writer, but the room is tested first.
+abbrev pub testsRoomFirst : Writer
+testsRoomFirst f output = unlessOut (leb (bytesOf f) (length output)) noRoom output (packOf f output)
+
+pub tests-room-first-refuted : PackRefusedOf testsRoomFirst → ⊥
+unfolding kindOf fitsFile textsFit textFits zeroFilled textLength allZero
+tests-room-first-refuted promise =
+    let p = promise broken [] in
+    let wrong : noRoom ≡ notZeroFilled = p .0 in
+    omega (arith, wrong)
+
+-- Our writer, but the mark is laid before the tests.
+abbrev pub marksFirst : Writer
+marksFirst f output = let o = packOf f output in record { answer = o .answer; output = laid (o .output) 0 mark }
+
+pub marks-first-refuted : PackRefusedOf marksFirst → ⊥
+unfolding packOf kindOf fitsFile laid textsFit textFits zeroFilled textLength allZero
+marks-first-refuted promise =
+    let p = promise broken lent in
+    let same = p .1 (λ e. let z : notZeroFilled ≡ bytesWritten = e in omega (arith, z)) in
+    let wrong : _≡_ {A = ℕ} 0x41 7 = ap (λ (l : List ℕ). getD l 0 0) same in
     omega (arith, wrong)
