@@ -215,10 +215,10 @@ pub record Accepted (f : Fields) (output : List ℕ) : Type 0 where
   pub room : bytesOf f ≤ length output
 
 -- Where a test stands before an answer that bytes were written, it was passed, and what stands behind it is that answer.
-not-refused : (t : Bool) (number : ℕ) (output : List ℕ) (rest : Out) → number < bytesWritten
+went-on : (t : Bool) (number : ℕ) (output : List ℕ) (rest : Out) → number < bytesWritten
     → numberIn (unlessOut t number output rest .answer) ≡ bytesWritten → (t ≡ true) × (numberIn (rest .answer) ≡ bytesWritten)
-not-refused true number output rest less h = (refl, h)
-not-refused false number output rest less h = absurd (omega (arith, h))
+went-on true number output rest less h = (refl, h)
+went-on false number output rest less h = absurd (omega (arith, h))
 
 -- Fields that were written have passed every test.
 pub pack-accepted : (f : Fields) (output : List ℕ) → numberIn (packOf f output .answer) ≡ bytesWritten → Accepted f output
@@ -237,11 +237,11 @@ pack-accepted f output h = go (kindOf (f .number)) refl h
     go : (known : Known) → kindOf (f .number) ≡ known → numberIn (behindKind known .answer) ≡ bytesWritten → Accepted f output
     go Unknown e r = let z : wrongType ≡ bytesWritten = r in absurd (omega (arith, z))
     go (Is k) e r =
-        let at-base = not-refused (eqb (f .address) (baseOf k)) wrongType output _ (omega arith) r in
-        let fits-file = not-refused (fitsFile k (length (f .image))) wrongImageLength output _ (omega arith) (at-base .1) in
-        let starts = not-refused (leb headerSize (f .start)) wrongStart output _ (omega arith) (fits-file .1) in
-        let zeros = not-refused (textsIn f) notZeroFilled output _ (omega arith) (starts .1) in
-        let ends = not-refused (leb (bytesOf f) (length output)) noRoom output _ (omega arith) (zeros .1) in
+        let at-base = went-on (eqb (f .address) (baseOf k)) wrongType output _ (omega arith) r in
+        let fits-file = went-on (fitsFile k (length (f .image))) wrongImageLength output _ (omega arith) (at-base .1) in
+        let starts = went-on (leb headerSize (f .start)) wrongStart output _ (omega arith) (fits-file .1) in
+        let zeros = went-on (textsIn f) notZeroFilled output _ (omega arith) (starts .1) in
+        let ends = went-on (leb (bytesOf f) (length output)) noRoom output _ (omega arith) (zeros .1) in
         record {
           kind = k;
           known = e;
