@@ -12,7 +12,7 @@ use Rattle.ubf_model.specs.Block.{blockOf, sizeOf}
 use Rattle.ubf_model.specs.BlockLaws.{block-within, block-some}
 use Rattle.ubf_model.specs.WalkLaws.{walk-refused, nth-refused}
 use Rattle.ubf_promises.specs.Promises.{EndsFrom, WalkLaid, EmptyFile}
-use Rattle.ubf_model.specs.Walk.{Standing, standing, Ending, whole, fault, Walked, goOn, walkOn, walkBy, walkFrom, walkOf}
+use Rattle.ubf_model.specs.Walk.{Standing, standing, Ending, whole, fault, Walked, goOn, walkOn, walkBy, walkFrom}
 use Rattle.ubf_model.specs.declared.block.Block.{Block}
 use Rattle.ubf_model.specs.declared.block.Found.{Found}
 use Rattle.ubf_model.specs.declared.block.Found.the-variants.{Whole, Refused}

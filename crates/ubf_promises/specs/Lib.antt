@@ -1,4 +1,4 @@
--- The promises, and a file of proof for each.
+-- The promises, a file of proof for each, and programs that break them, tried on a tiny block.
 pub mod Promises
 pub mod Laid
 pub mod ReadWritten

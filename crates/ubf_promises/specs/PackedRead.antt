@@ -1,13 +1,11 @@
 -- What the writer has accepted is a block that is read back.
-use Prim.Native.Nat.{ℕ}
-use mathlib.Core.List.{List, _++_}
-use mathlib.Core.Path.{_≡_, refl, ap, _∙_}
-use lib.ListN.{length, take, drop}
+use mathlib.Core.Path.{_≡_, refl}
+use lib.ListN.{length, drop}
 use lib.Seq.{drop-at}
 use Rattle.octets.specs.Octets.{over}
 use Rattle.octets.specs.OctetsLaws.{take-over}
 use Rattle.kinds.specs.KindsLaws.{number-of-kind}
-use Rattle.refusals.specs.Written.{Out, countIn, written}
+use Rattle.refusals.specs.Written.{written}
 use Rattle.ubf_model.specs.Pack.{blockBytes, packOf}
 use Rattle.ubf_model.specs.PackLaws.{texts-of-test, length-block, pack-passed, pack-accepted}
 use Rattle.ubf_promises.specs.Promises.{Packable, PackedRead}

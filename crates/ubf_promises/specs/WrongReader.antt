@@ -8,7 +8,6 @@ use lib.Dec.{eqb, leb, ltb}
 use lib.ListN.{length, take, drop, replicate, getD}
 use Rattle.octets.specs.Octets.{spelled, little, numberAt, partOf, over, laid, sameBytes, allZero, textLength, zeroFilled, xorFrom, xorOf, xorWords, xorWordsFrom}
 use Rattle.kinds.specs.Kinds.{kindOf, baseOf, fitsFile}
-use Rattle.kinds.specs.declared.Kind.{Kind}
 use Rattle.kinds.specs.declared.Kind.the-variants.{Upgrade}
 use Rattle.kinds.specs.declared.Known.{Known}
 use Rattle.kinds.specs.declared.Known.the-variants.{Is, Unknown}
@@ -21,7 +20,7 @@ use Rattle.ubf_model.specs.Pack.{Fields, filled, blockBytes, packOf}
 use Rattle.ubf_model.specs.declared.block.Found.{Found}
 use Rattle.ubf_model.specs.declared.block.Found.the-variants.{Whole, Refused}
 use Rattle.ubf_promises.specs.Promises.{Reader, blockFor, ReadWrittenOf, WrittenReadOf, ReadRefusedOf}
-use Rattle.ubf_promises.specs.Tiny.{blockWith, tiny, broken, tiny-packable, toldNumber, bytes-of, lent}
+use Rattle.ubf_promises.specs.Tiny.{tiny, broken, tiny-packable, toldNumber, bytes-of, lent}
 
 -- Our reader, but the model is read at the block's front.
 abbrev pub modelAtFront : Reader
@@ -43,63 +42,57 @@ model-at-front-refuted promise =
 
 -- ---- our reader with another test
 
--- The tests that are varied: the mark, CS, the zeros, the check.
-pub record Tests : Type 0 where
-  pub marked : List ℕ → Bool
-  pub starts : List ℕ → Bool
-  pub zeros : List ℕ → Bool
-  pub checked : List ℕ → Bool
+-- The tests that are varied: how many header bytes are asked for, the mark, CS, the zeros, the check. Ours:
+abbrev pub Test : Type 0
+Test = List ℕ → Bool
 
-abbrev pub marksAT : List ℕ → Bool
+abbrev pub marksAT : Test
 marksAT s = sameBytes (markIn s) mark
 
-abbrev pub startsFrom : ℕ → List ℕ → Bool
+abbrev pub startsFrom : ℕ → Test
 startsFrom least s = leb least (startIn s)
 
-abbrev pub checksWords : List ℕ → Bool
+abbrev pub checksWords : Test
 checksWords s = eqb (checkIn s) (xorWords (imageIn s))
 
-abbrev pub knownBy : Tests → Known → List ℕ → Found
-knownBy t Unknown s = Refused wrongType
-knownBy t (Is k) s =
+abbrev pub typeBy : Test → Test → Test → Known → List ℕ → Found
+typeBy starts zeros checked Unknown s = Refused wrongType
+typeBy starts zeros checked (Is k) s =
     unless (eqb (addressIn s) (baseOf k)) wrongType
     (unless (fitsFile k (lengthIn s)) wrongImageLength
-    (unless (t .starts s) wrongStart
+    (unless (starts s) wrongStart
     (unless (leb (startIn s + lengthIn s + 4) (length s)) fileEnds
-    (unless (t .zeros s) notZeroFilled
-    (unless (t .checked s) wrongImageCheck
+    (unless (zeros s) notZeroFilled
+    (unless (checked s) wrongImageCheck
     (Whole (fieldsOf k s)))))))
 
 -- Our reader, but blocks are found in another way.
 abbrev pub finding : (List ℕ → Found) → Reader
 finding block = record { block = block; model = modelIn; version = versionIn; name = nameIn; date = dateIn; image = imageOf }
 
-abbrev pub readerBy : Tests → Reader
-readerBy t = finding (λ s. unless (leb headerSize (length s)) fileEnds (unless (t .marked s) wrongMark (knownBy t (kindOf (typeIn s)) s)))
+abbrev pub readerBy : ℕ → Test → Test → Test → Test → Reader
+readerBy header marked starts zeros checked =
+    finding (λ s. unless (leb header (length s)) fileEnds (unless (marked s) wrongMark (typeBy starts zeros checked (kindOf (typeIn s)) s)))
 
 -- With our own tests it is our reader.
-abbrev pub ourTests : Tests
-ourTests = record { marked = marksAT; starts = startsFrom headerSize; zeros = filledIn; checked = checksWords }
-
-pub by-our-tests : (s : List ℕ) → readerBy ourTests .block s ≡ blockOf s
+pub by-our-tests : (s : List ℕ) → readerBy headerSize marksAT (startsFrom headerSize) filledIn checksWords .block s ≡ blockOf s
 unfolding blockOf kindBlock
 by-our-tests s = go (kindOf (typeIn s))
   where
     behindMark : Found → Found
     behindMark rest = unless (leb headerSize (length s)) fileEnds (unless (marksAT s) wrongMark rest)
 
-    go : (type : Known) → behindMark (knownBy ourTests type s) ≡ behindMark (knownBlock type s)
+    go : (type : Known) → behindMark (typeBy (startsFrom headerSize) filledIn checksWords type s) ≡ behindMark (knownBlock type s)
     go (Is k) = refl
     go Unknown = refl
 
+-- No test at all.
+abbrev pub any : Test
+any s = true
+
 -- The check is taken for the xor of bytes and not of words: a good block is refused.
 abbrev pub checkOverBytes : Reader
-checkOverBytes = readerBy (record {
-  marked = marksAT;
-  starts = startsFrom headerSize;
-  zeros = filledIn;
-  checked = λ (s : List ℕ). eqb (checkIn s) (xorOf (imageIn s));
-})
+checkOverBytes = readerBy headerSize marksAT (startsFrom headerSize) filledIn (λ s. eqb (checkIn s) (xorOf (imageIn s)))
 
 pub check-over-bytes-refuted : ReadWrittenOf checkOverBytes → ⊥
 unfolding kindOf fitsFile blockBytes filled spelled partOf numberAt little sameBytes xorFrom xorWordsFrom filledIn textsFit textFits
@@ -111,7 +104,7 @@ check-over-bytes-refuted promise =
 
 -- Any mark will do: what was read as "AU" is written as "AT".
 abbrev pub anyMark : Reader
-anyMark = readerBy (record { marked = λ (s : List ℕ). true; starts = startsFrom headerSize; zeros = filledIn; checked = checksWords })
+anyMark = readerBy headerSize any (startsFrom headerSize) filledIn checksWords
 
 abbrev otherMark : List ℕ
 otherMark = laid (blockBytes tiny) 1 (0x55 ∷ [])
@@ -126,7 +119,7 @@ any-mark-refuted promise =
 
 -- A start of 0xCF will do: the image begins with the last byte of the header, and the writer refuses what was read.
 abbrev pub startsAt207 : Reader
-startsAt207 = readerBy (record { marked = marksAT; starts = startsFrom 0xCF; zeros = filledIn; checked = checksWords })
+startsAt207 = readerBy headerSize marksAT (startsFrom 0xCF) filledIn checksWords
 
 abbrev early : Fields
 early = record { number = 2; address = 0; start = 0xCF; model = []; version = []; name = []; date = []; image = 0 ∷ 2 ∷ 3 ∷ 4 ∷ [] }
@@ -144,7 +137,7 @@ starts-at-207-refuted promise =
 
 -- Any text and gap will do: the writer refuses what was read.
 abbrev pub anyText : Reader
-anyText = readerBy (record { marked = marksAT; starts = startsFrom headerSize; zeros = λ (s : List ℕ). true; checked = checksWords })
+anyText = readerBy headerSize marksAT (startsFrom headerSize) any checksWords
 
 pub any-text-refuted : WrittenReadOf packOf anyText → ⊥
 unfolding packOf kindOf fitsFile blockBytes filled spelled over partOf numberAt little sameBytes xorWordsFrom textsFit textFits zeroFilled
@@ -154,11 +147,9 @@ any-text-refuted promise =
     let wrong : notZeroFilled ≡ bytesWritten = ap (λ (o : Out). numberIn (o .answer)) e in
     omega (arith, wrong)
 
--- ---- our reader with other numbers
-
--- 207 header bytes are asked for: where 207 stand the mark is looked at.
+-- 207 header bytes will do: where no more stand the mark is looked at.
 abbrev pub asksFor207 : Reader
-asksFor207 = finding (λ s. cond (eqb (length s) 207) (unless (sameBytes (markIn s) mark) wrongMark (Refused fileEnds)) (blockOf s))
+asksFor207 = readerBy 207 marksAT (startsFrom headerSize) filledIn checksWords
 
 pub asks-for-207-refuted : ReadRefusedOf asksFor207 → ⊥
 unfolding partOf sameBytes
@@ -171,6 +162,7 @@ abbrev pub startFirst : Found → List ℕ → Found
 startFirst (Whole b) s = Whole b
 startFirst (Refused number) s = cond (eqb number wrongImageLength && ltb (startIn s) headerSize) (Refused wrongStart) (Refused number)
 
+-- No image, and it starts within the header: wrong twice.
 abbrev twice : Fields
 twice = record { number = 2; address = 0; start = 0xCF; model = []; version = []; name = []; date = []; image = [] }
 

@@ -1,10 +1,10 @@
 -- Walks that break U2, or take an empty file for a whole one.
 use Prim.Native.Nat.{ℕ, zero, suc, _+_}
 use mathlib.Core.List.{List, [], _∷_, _++_}
-use mathlib.Core.Path.{_≡_, refl, ap}
+use mathlib.Core.Path.{_≡_, ap}
 use native.Mathlib.Omega.{arith}
 use lib.Dec.{leb}
-use lib.ListN.{length, take, drop}
+use lib.ListN.{length, take}
 use Rattle.octets.specs.Octets.{spelled, little, numberAt, partOf, sameBytes, allZero, textLength, zeroFilled, xorWordsFrom}
 use Rattle.kinds.specs.Kinds.{kindOf, fitsFile}
 use Rattle.refusals.specs.Refusals.{fileEnds, wrongStart}

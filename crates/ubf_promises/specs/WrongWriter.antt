@@ -1,10 +1,10 @@
 -- Writers that break U1.
 use Prim.Native.Nat.{ℕ, _+_, _-_}
-use mathlib.Core.List.{List, [], _++_}
+use mathlib.Core.List.{List, []}
 use mathlib.Core.Path.{_≡_, refl, ap}
 use native.Mathlib.Omega.{arith}
 use lib.Dec.{leb}
-use lib.ListN.{length, take, drop, replicate, getD}
+use lib.ListN.{length, replicate, getD}
 use Rattle.octets.specs.Octets.{spelled, little, numberAt, partOf, over, laid, sameBytes, allZero, textLength, zeroFilled, xorFrom, xorOf, xorWordsFrom}
 use Rattle.kinds.specs.Kinds.{kindOf, fitsFile}
 use Rattle.kinds.specs.declared.Kind.the-variants.{Upgrade}
@@ -14,7 +14,7 @@ use Rattle.refusals.specs.declared.Written.{Written}
 use Rattle.refusals.specs.declared.Written.the-variants.{Count, Refused}
 use Rattle.ubf_model.specs.Answers.{blockFound}
 use Rattle.ubf_model.specs.Block.{headerSize, mark, blockOf, kindBlock, filledIn, textFits, textsFit}
-use Rattle.ubf_model.specs.Pack.{Fields, filled, blockBytes, bytesOf, pairs, fits, unlessOut, packOf}
+use Rattle.ubf_model.specs.Pack.{filled, blockBytes, bytesOf, pairs, fits, unlessOut, packOf}
 use Rattle.ubf_promises.specs.Promises.{Writer, ourReader, blockFor, PackWritesOf, PackedReadOf, WrittenReadOf, PackRefusedOf}
 use Rattle.ubf_promises.specs.Tiny.{apart, tiny, tinySize, broken, tiny-packable, toldNumber, bytes-of, lent}
 
