@@ -18,7 +18,7 @@ use Rattle.ubf_model.specs.Block.{headerSize, markIn, mark, lengthIn, ad
 use Rattle.ubf_model.specs.Block.{fieldsOf, sizeOf, unless, kindBlock, knownBlock, blockOf}
 use Rattle.ubf_model.specs.declared.block.Block.{Block}
 use Rattle.ubf_model.specs.declared.block.Found.{Found}
-use Rattle.ubf_model.specs.declared.block.Found.the-variants.{Whole, Refused}
+use Rattle.ubf_model.specs.declared.block.Found.the-variants.{Whole}
 
 -- The facts that make the front of some bytes a block of a kind.
 pub record Good (k : Kind) (s : List ℕ) : Type 0 where

@@ -1,6 +1,7 @@
 -- The promises, a file of proof for each, and programs that break them, tried on a tiny block.
 pub mod Promises
 pub mod Laid
+pub mod Nth
 pub mod ReadWritten
 pub mod WrittenRead
 pub mod PackedRead

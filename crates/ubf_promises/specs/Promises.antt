@@ -22,6 +22,7 @@ use Rattle.ubf_model.specs.declared.block.Block.{Block}
 use Rattle.ubf_model.specs.declared.block.Found.{Found}
 use Rattle.ubf_model.specs.declared.block.Found.the-variants.{Whole}
 use Rattle.ubf_model.specs.declared.walk.Nth.{Nth}
+use Rattle.ubf_model.specs.declared.walk.Nth.the-variants as nth
 
 -- ---- writers and readers
 
@@ -199,10 +200,31 @@ WalkLaidOf walk = (file : List ℕ) → EndsFrom file 0 (walk file .blocks) (wal
 abbrev pub WalkLaid : Type 0
 WalkLaid = WalkLaidOf walkOf
 
+-- So many blocks, laid end to end from the file's front, end at a place.
+pub record Before (file : List ℕ) (count place : ℕ) : Type 0 where
+  pub blocks : List Standing
+  pub many : length blocks ≡ count
+  pub laid-out : LaidOut file 0 blocks place
+
+-- What an answer to the search for the n-th block owes. A block found is read at its place, behind n others; where the blocks are too
+-- few, all are counted; at a fault the block is refused, and those before it are counted.
+abbrev pub NthStands : List ℕ → ℕ → Nth → Type 0
+NthStands file n (nth.Found b place) = Before file n place × (blockOf (drop place file) ≡ Whole b)
+NthStands file n (nth.Past count) = Before file count (length file) × (count ≤ n) × (0 < length file)
+NthStands file n (nth.Refused number place count) =
+    Before file count place × (count ≤ n) × (foundTold (blockOf (drop place file)) ≡ noneTold number 0 0)
+
+-- U2, the n-th block (Nth.antt), counted from 0.
+abbrev pub NthLaidOf : (ℕ → List ℕ → Nth) → Type 0
+NthLaidOf search = (file : List ℕ) (n : ℕ) → NthStands file n (search n file)
+
+abbrev pub NthLaid : Type 0
+NthLaid = NthLaidOf blockAt
+
 -- An empty file is refused with 4 (Laid.antt): a walk over it finds no block and ends with 4 at place 0, and whichever block is asked
 -- for, the answer is 4 at place 0, with no block before it.
 abbrev pub EmptyFileOf : (List ℕ → Walked) → (ℕ → List ℕ → Nth) → Type 0
-EmptyFileOf walk nth = (walk [] ≡ ends (fault fileEnds 0)) × ((n : ℕ) → nthTold (nth n []) ≡ noneTold fileEnds 0 0)
+EmptyFileOf walk search = (walk [] ≡ ends (fault fileEnds 0)) × ((n : ℕ) → nthTold (search n []) ≡ noneTold fileEnds 0 0)
 
 abbrev pub EmptyFile : Type 0
 EmptyFile = EmptyFileOf walkOf blockAt

@@ -1,5 +1,5 @@
 -- Walks that break U2, or take an empty file for a whole one.
-use Prim.Native.Nat.{ℕ, zero, suc, _+_}
+use Prim.Native.Nat.{ℕ, zero, suc, _+_, _-_}
 use mathlib.Core.List.{List, [], _∷_, _++_}
 use mathlib.Core.Path.{_≡_, ap}
 use native.Mathlib.Omega.{arith}
@@ -11,11 +11,11 @@ use Rattle.refusals.specs.Refusals.{fileEnds, wrongStart}
 use Rattle.ubf_model.specs.Answers.{Told, blockFound, blocksPast}
 use Rattle.ubf_model.specs.Block.{headerSize, startIn, unless, blockOf, kindBlock, filledIn, textFits, textsFit}
 use Rattle.ubf_model.specs.Pack.{filled, blockBytes}
-use Rattle.ubf_model.specs.Walk.{Standing, Ending, whole, fault, Walked, ends, walkOn, walkBy, walkFrom, walkOf, blockAt}
+use Rattle.ubf_model.specs.Walk.{Standing, Ending, whole, fault, Walked, ends, walkOn, walkBy, walkFrom, walkOf, nthFrom, blockAt}
 use Rattle.ubf_model.specs.declared.block.Found.{Found}
 use Rattle.ubf_model.specs.declared.walk.Nth.{Nth}
-use Rattle.ubf_model.specs.declared.walk.Nth.the-variants.{Past}
-use Rattle.ubf_promises.specs.Promises.{WalkLaidOf, EmptyFileOf}
+use Rattle.ubf_model.specs.declared.walk.Nth.the-variants.{Found as NthFound, Past, Refused as NthRefused}
+use Rattle.ubf_promises.specs.Promises.{LaidOut, WalkLaidOf, Before, NthLaidOf, EmptyFileOf}
 use Rattle.ubf_promises.specs.Tiny.{tiny, tinySize}
 
 -- Our walk, but the last block is lost.
@@ -84,7 +84,45 @@ empty-is-whole-refuted promise =
 pub empty-whole-refuted : WalkLaidOf emptyIsWhole → ⊥
 empty-whole-refuted promise = let all = promise [] in omega (arith, all .1)
 
--- Our search for the n-th block, but an empty file has no block and no fault.
+-- ---- searches for the n-th block
+
+-- Ours, but whichever block is asked for, the first is given.
+abbrev pub alwaysFirst : ℕ → List ℕ → Nth
+alwaysFirst n file = blockAt 0 file
+
+-- No block ends where it begins.
+not-empty : (file : List ℕ) (bs : List Standing) → length bs ≡ 1 → LaidOut file 0 bs 0 → ⊥
+not-empty file [] one h = omega (arith, one)
+not-empty file (b ∷ []) one h = omega (arith, h .2)
+not-empty file (b ∷ c ∷ bs) one h = omega (arith, one)
+
+pub always-first-refuted : NthLaidOf alwaysFirst → ⊥
+unfolding nthFrom walkFrom walkBy kindOf fitsFile blockBytes filled spelled partOf numberAt little sameBytes xorWordsFrom blockOf kindBlock
+    filledIn textsFit textFits zeroFilled textLength allZero
+always-first-refuted promise =
+    let first : Before (blockBytes tiny) 1 0 = promise (blockBytes tiny) 1 .0 in
+    not-empty (blockBytes tiny) (first .blocks) (first .many) (first .laid-out)
+
+-- Ours, but the last block is not counted.
+abbrev pub oneLess : Nth → Nth
+oneLess (NthFound b place) = NthFound b place
+oneLess (Past count) = Past (count - 1)
+oneLess (NthRefused number place count) = NthRefused number place count
+
+-- No block reaches no place but the front.
+none-before : (file : List ℕ) (place : ℕ) (bs : List Standing) → length bs ≡ 0 → LaidOut file 0 bs place → 0 ≡ place
+none-before file place [] none h = h
+none-before file place (b ∷ bs) none h = absurd (omega (arith, none))
+
+pub last-not-counted-refuted : NthLaidOf (λ n file. oneLess (blockAt n file)) → ⊥
+unfolding nthFrom walkFrom walkBy kindOf fitsFile blockBytes filled spelled partOf numberAt little sameBytes xorWordsFrom blockOf kindBlock
+    filledIn textsFit textFits zeroFilled textLength allZero
+last-not-counted-refuted promise =
+    let all : Before (blockBytes tiny) 0 tinySize = promise (blockBytes tiny) 1 .0 in
+    let wrong = none-before (blockBytes tiny) tinySize (all .blocks) (all .many) (all .laid-out) in
+    omega (arith, wrong)
+
+-- Ours, but an empty file has no block and no fault.
 abbrev pub emptyHasNone : ℕ → List ℕ → Nth
 emptyHasNone n [] = Past 0
 emptyHasNone n (b ∷ bs) = blockAt n (b ∷ bs)
