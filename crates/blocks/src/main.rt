@@ -60,7 +60,7 @@ fn list_block(file: &[u8], n: usize) -> bool {
 fn show_block(n: usize, block: Block, bytes: &[u8]) {
     show_place(n);
     let kind = block.kind;
-    console::placed(kind, block.length, block.start);
+    console::placed(kind, block.extent, block.start);
     console::say(b", model ");
     console::text(ubf::model(bytes));
     console::say(b", version ");

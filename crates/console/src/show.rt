@@ -18,12 +18,12 @@ pub fn refusal(number: u8) {
 }
 
 // Where an image goes and where it stands in its block.
-pub fn placed(image: Kind, length: u32, start: u32) {
+pub fn placed(image: Kind, extent: u32, start: u32) {
     voice::kind(STDOUT_FILENO, image);
     say(b", address ");
     word(kinds::base_of(image));
     say(b", length ");
-    number(length as usize);
+    number(extent as usize);
     say(b", start ");
     number(start as usize);
 }

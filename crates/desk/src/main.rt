@@ -99,7 +99,7 @@ fn load_nth(walk: Walk, file: &[u8], n: usize, rate: u64, flash: &mut [u8]) -> W
     match ubf::block_at(file, n) {
         Nth::Found { block, place } => {
             let kind = block.kind;
-            show_block(n, kind, block.length, block.start);
+            show_block(n, kind, block.extent, block.start);
             load_block(walk, block, octets::behind(file, place), rate, flash)
         }
         Nth::Past { count } => walk,
@@ -112,13 +112,13 @@ fn load_nth(walk: Walk, file: &[u8], n: usize, rate: u64, flash: &mut [u8]) -> W
 }
 
 // People count from 1.
-fn show_block(n: usize, kind: Kind, length: u32, start: u32) {
+fn show_block(n: usize, kind: Kind, extent: u32, start: u32) {
     voice::tell(
         STDOUT_FILENO,
         b"block \0: ",
         &[std::num::wrapping_add_usize(n, 1)],
     );
-    console::placed(kind, length, start);
+    console::placed(kind, extent, start);
     console::say(b"\n");
 }
 

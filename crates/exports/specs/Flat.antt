@@ -1,29 +1,17 @@
--- Answers as numbers: an enum's case becomes its number, and what the case holds becomes numbers beside it, 0 where it holds none.
+-- Answers as C is given them: the number and the values of each case, as they stand with its enum, beside one another.
 use Prim.Native.Nat.{ℕ}
 use mathlib.Core.List.{List}
 use mathlib.Core.Path.{_≡_, refl}
 use lib.ListN.{length}
-use Rattle.refusals.specs.Written.{Out}
-use Rattle.refusals.specs.declared.Written.{Written}
-use Rattle.refusals.specs.declared.Written.the-variants.{Count, Refused}
-use Rattle.flat.specs.Answers.{written, found, past}
-use Rattle.kinds.specs.Kinds.{numberOf}
+use Rattle.refusals.specs.Written.{Out, numberIn, countIn}
+use Rattle.ubf_model.specs.Answers.{Told, blockTold, noneTold, foundTold, nthTold}
 use Rattle.ubf_model.specs.declared.block.Block.{Block}
 use Rattle.ubf_model.specs.declared.block.Found.{Found}
-use Rattle.ubf_model.specs.declared.block.Found.the-variants as block
+use Rattle.ubf_model.specs.declared.block.Found.the-variants.{Whole, Refused}
 use Rattle.ubf_model.specs.declared.walk.Nth.{Nth}
-use Rattle.ubf_model.specs.declared.walk.Nth.the-variants as nth
 use Rattle.exports.specs.declared.files.Answered.{Answered}
 
--- A call that writes: 100 and how many bytes, or the refusal number.
-abbrev pub numberIn : Written → ℕ
-numberIn (Count n) = written
-numberIn (Refused number) = number
-
-abbrev pub countIn : Written → ℕ
-countIn (Count n) = n
-countIn (Refused number) = 0
-
+-- A call that writes.
 pub record WrittenFlat : Type 0 where
   pub answer : ℕ
   pub count : ℕ
@@ -40,50 +28,39 @@ pub record Stretch : Type 0 where
 abbrev pub stretchOf : ℕ → List ℕ → Stretch
 stretchOf place part = record { count = length part; place = place }
 
--- No block: its numbers are 0.
-abbrev pub withoutBlock : ℕ → ℕ → ℕ → Answered
-withoutBlock answer place count = record {
-  answer = answer;
-  kind = 0;
-  length = 0;
-  start = 0;
-  check = 0;
-  place = place;
-  count = count;
+-- What is told of blocks, as the struct that the calls fill.
+abbrev pub flatOf : Told → Answered
+flatOf t = record {
+  answer = t .number;
+  kind = t .kind;
+  extent = t .extent;
+  start = t .start;
+  check = t .check;
+  place = t .place;
+  count = t .count;
 }
 
--- A block at its place.
 abbrev pub withBlock : Block → ℕ → Answered
-withBlock b place = record {
-  answer = found;
-  kind = numberOf (b .kind);
-  length = b .length;
-  start = b .start;
-  check = b .check;
-  place = place;
-  count = 0;
-}
+withBlock b place = flatOf (blockTold b place)
 
--- One block: its numbers, or the refusal number.
+abbrev pub withoutBlock : ℕ → ℕ → ℕ → Answered
+withoutBlock number place count = flatOf (noneTold number place count)
+
 abbrev pub foundFlat : Found → Answered
-foundFlat (block.Whole b) = withBlock b 0
-foundFlat (block.Refused number) = withoutBlock number 0 0
+foundFlat f = flatOf (foundTold f)
 
--- The n-th block: its numbers and its place; or how many blocks there are; or the first fault.
 abbrev pub nthFlat : Nth → Answered
-nthFlat (nth.Found b place) = withBlock b place
-nthFlat (nth.Past count) = withoutBlock past 0 count
-nthFlat (nth.Refused number place count) = withoutBlock number place count
+nthFlat n = flatOf (nthTold n)
 
 -- A block at the front has no other place and no count beside it.
 pub found-nowhere : (f : Found) → record {
   answer = foundFlat f .answer;
   kind = foundFlat f .kind;
-  length = foundFlat f .length;
+  extent = foundFlat f .extent;
   start = foundFlat f .start;
   check = foundFlat f .check;
   place = 0;
   count = 0;
 } ≡ foundFlat f
-found-nowhere (block.Whole b) = refl
-found-nowhere (block.Refused number) = refl
+found-nowhere (Whole b) = refl
+found-nowhere (Refused number) = refl

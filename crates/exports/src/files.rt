@@ -25,7 +25,7 @@ use ubf_model::VERSION_SIZE;
 pub struct Answered {
     pub answer: u8,
     pub kind: u16,
-    pub length: u32,
+    pub extent: u32,
     pub start: u32,
     pub check: u32,
     pub place: usize,
@@ -54,7 +54,7 @@ fn with_block(block: Block, place: usize) -> Answered
     Answered {
         answer: flat::FOUND,
         kind: kinds::number_of(kind),
-        length: block.length,
+        extent: block.extent,
         start: block.start,
         check: block.check,
         place: place,
@@ -69,7 +69,7 @@ fn without_block(answer: u8, place: usize, count: usize) -> Answered
     Answered {
         answer: answer,
         kind: 0,
-        length: 0,
+        extent: 0,
         start: 0,
         check: 0,
         place: place,
@@ -81,14 +81,14 @@ fn without_block(answer: u8, place: usize, count: usize) -> Answered
 pub extern "C" fn zrn_ubf_read(
     block: &[u8],
     kind: &mut u16,
-    length: &mut u32,
+    extent: &mut u32,
     start: &mut u32,
     check: &mut u32,
 ) -> u8
     ensures { λ r. ⌜ record {
       answer = r;
       kind = now (kind .exit);
-      length = now (length .exit);
+      extent = now (extent .exit);
       start = now (start .exit);
       check = now (check .exit);
       place = 0;
@@ -97,7 +97,7 @@ pub extern "C" fn zrn_ubf_read(
 {
     let found = numbers_in(ubf::read(block));
     *kind = found.kind;
-    *length = found.length;
+    *extent = found.extent;
     *start = found.start;
     *check = found.check;
     found.answer
@@ -117,7 +117,7 @@ pub extern "C" fn zrn_ubf_block_at(
     file: &[u8],
     n: usize,
     kind: &mut u16,
-    length: &mut u32,
+    extent: &mut u32,
     start: &mut u32,
     check: &mut u32,
     place: &mut usize,
@@ -126,7 +126,7 @@ pub extern "C" fn zrn_ubf_block_at(
     ensures { λ r. ⌜ record {
       answer = r;
       kind = now (kind .exit);
-      length = now (length .exit);
+      extent = now (extent .exit);
       start = now (start .exit);
       check = now (check .exit);
       place = now (place .exit);
@@ -135,7 +135,7 @@ pub extern "C" fn zrn_ubf_block_at(
 {
     let nth = numbers_of(ubf::block_at(file, n));
     *kind = nth.kind;
-    *length = nth.length;
+    *extent = nth.extent;
     *start = nth.start;
     *check = nth.check;
     *place = nth.place;
@@ -144,10 +144,10 @@ pub extern "C" fn zrn_ubf_block_at(
 }
 
 #[no_mangle]
-pub extern "C" fn zrn_ubf_image(block: &[u8], start: u32, length: u32, place: &mut usize) -> usize
-    ensures { λ r. ⌜ record { count = r; place = now (place .exit) } ≡ stretchOf start (partOf (now (block .entry)) start length) ⌝ }
+pub extern "C" fn zrn_ubf_image(block: &[u8], start: u32, extent: u32, place: &mut usize) -> usize
+    ensures { λ r. ⌜ record { count = r; place = now (place .exit) } ≡ stretchOf start (partOf (now (block .entry)) start extent) ⌝ }
 {
-    stretch(block, flat::wide(start), flat::wide(length), place)
+    stretch(block, flat::wide(start), flat::wide(extent), place)
 }
 
 #[no_mangle]
@@ -179,10 +179,10 @@ pub extern "C" fn zrn_ubf_date(block: &[u8], place: &mut usize) -> usize
 }
 
 #[no_mangle]
-pub extern "C" fn zrn_ubf_size(start: u32, length: u32) -> usize
-    ensures { λ r. ⌜ r ≡ start + length + 4 ⌝ }
+pub extern "C" fn zrn_ubf_size(start: u32, extent: u32) -> usize
+    ensures { λ r. ⌜ r ≡ start + extent + 4 ⌝ }
 {
-    flat::wide(start) + flat::wide(length) + 4
+    flat::wide(start) + flat::wide(extent) + 4
 }
 
 #[no_mangle]

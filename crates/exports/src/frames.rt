@@ -1,10 +1,11 @@
 // The wire: frames written, their content tested, the escape; and the words of refusals.
 ghost use mathlib.Core.Path.{_≡_};
 ghost use Rattle.refusals.specs.Refusals.{sayOf, wordsOf};
+ghost use Rattle.refusals.specs.Written.{numberIn, countIn};
 ghost use Rattle.wire.specs.Escape.{mayFollow, originalOf};
 ghost use Rattle.wire.specs.Frame.{frame, isContent};
 ghost use Rattle.wire.specs.Write.{writeOf};
-ghost use Rattle.exports.specs.Flat.{numberIn, countIn, writtenFlat};
+ghost use Rattle.exports.specs.Flat.{writtenFlat};
 use refusals::Written;
 
 #[no_mangle]

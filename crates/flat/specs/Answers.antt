@@ -1,4 +1,5 @@
--- The answers that are no refusal, by number. A refusal is answered by its own number.
+-- The answers of sessions and readers that are no refusal, by number; those of blocks stand with their enums (ubf_model). A refusal is answered
+-- by its own number.
 use Prim.Native.Nat.{ℕ}
 
 abbrev pub nothing : ℕ
@@ -15,12 +16,6 @@ dropped = 102
 
 abbrev pub done : ℕ
 done = 103
-
-abbrev pub found : ℕ
-found = 104
-
-abbrev pub past : ℕ
-past = 105
 
 abbrev pub unknown : ℕ
 unknown = 106

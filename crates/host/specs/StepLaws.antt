@@ -10,7 +10,7 @@ use lib.ListN.{length}
 use Rattle.octets.specs.Choice.{cond-yes, cond-no, either-way}
 use Rattle.octets.specs.Octets.{over}
 use Rattle.refusals.specs.Refusals.{noRoom, wrongLength}
-use Rattle.refusals.specs.Written.{Out, refused, written, countOf, refusalOf}
+use Rattle.refusals.specs.Written.{Out, refused, written, bytesWritten, numberIn, countIn}
 use Rattle.refusals.specs.declared.Written.{Written}
 use Rattle.refusals.specs.declared.Written.the-variants as writes
 use Rattle.host.specs.Session.{stepped, arises, takenPhase}
@@ -39,10 +39,10 @@ module _ (s : Session) (message output : List ℕ) (answer : Written) (after : L
       go : (t : Bool) → record { answer = answer; output = after } ≡ cond t (refused noRoom output) (written message output)
           → left (next n) after ≡ cond t (left (stepped s (Refused noRoom)) output) (left (next (length message)) (over message output))
       go true e =
-          let none : 0 ≡ noRoom = ap refusalOf (sym told) ∙ ap (λ (o : Out). refusalOf (o .answer)) e in
+          let none : bytesWritten ≡ noRoom = ap numberIn (sym told) ∙ ap (λ (o : Out). numberIn (o .answer)) e in
           absurd (omega (arith, none))
       go false e =
-          let count : n ≡ length message = ap countOf (sym told) ∙ ap (λ (o : Out). countOf (o .answer)) e in
+          let count : n ≡ length message = ap countIn (sym told) ∙ ap (λ (o : Out). countIn (o .answer)) e in
           rw (count, ap (λ (o : Out). o .output) e)
 
   -- A refused one left all as it was.
@@ -54,7 +54,7 @@ module _ (s : Session) (message output : List ℕ) (answer : Written) (after : L
       go : (t : Bool) → record { answer = answer; output = after } ≡ cond t (refused noRoom output) (written message output)
           → left (stepped s (Refused n)) after ≡ cond t (left (stepped s (Refused noRoom)) output) (left next (over message output))
       go true e =
-          let number : n ≡ noRoom = ap refusalOf (sym told) ∙ ap (λ (o : Out). refusalOf (o .answer)) e in
+          let number : n ≡ noRoom = ap numberIn (sym told) ∙ ap (λ (o : Out). numberIn (o .answer)) e in
           rw (number, ap (λ (o : Out). o .output) e)
       go false e =
           let same : writes.Refused n ≡ writes.Count (length message) = sym told ∙ ap (λ (o : Out). o .answer) e in

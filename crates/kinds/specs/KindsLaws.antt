@@ -1,15 +1,26 @@
 -- The laws of Kinds.
 use Prim.Native.Nat.{ℕ, _+_, _^_, _≤_, _<_}
 use mathlib.Core.Bool.{true}
-use mathlib.Core.Path.{_≡_, refl}
+use mathlib.Core.Path.{_≡_, refl, ap, _∙_}
 use native.Mathlib.Omega.{arith}
-use borrow.Author.Tests.{leb-true, le-leb}
-use lib.Dec.{leb}
-use Rattle.octets.specs.Choice.{both}
+use borrow.Author.Tests.{leb-true, le-leb, eqb-true}
+use lib.Dec.{eqb, leb}
+use Rattle.octets.specs.Choice.{both, either-way}
 use Rattle.kinds.specs.Kinds.{kindOf, numberOf, baseOf, fitsFile, fitsFlash, longestImage}
 use Rattle.kinds.specs.declared.Kind.{Kind}
 use Rattle.kinds.specs.declared.Kind.the-variants.{Navigation, Upgrade, Parameters}
-use Rattle.kinds.specs.declared.Known.the-variants.{Is}
+use Rattle.kinds.specs.declared.Known.{Known}
+use Rattle.kinds.specs.declared.Known.the-variants.{Is, Unknown}
+
+-- The number of a known kind; no kind has 0.
+abbrev knownNumber : Known → ℕ
+knownNumber (Is k) = numberOf k
+knownNumber Unknown = 0
+
+unknown : (k : Kind) → 0 ≡ numberOf k → ⊥
+unknown Navigation e = omega (arith, e)
+unknown Upgrade e = omega (arith, e)
+unknown Parameters e = omega (arith, e)
 
 -- The number of a kind is read as the kind.
 pub kind-of-number : (k : Kind) → kindOf (numberOf k) ≡ Is k
@@ -17,6 +28,17 @@ unfolding kindOf
 kind-of-number Navigation = refl
 kind-of-number Upgrade = refl
 kind-of-number Parameters = refl
+
+-- A number that is read as a kind is the number of that kind.
+pub number-of-kind : (n : ℕ) (k : Kind) → kindOf n ≡ Is k → n ≡ numberOf k
+unfolding kindOf
+number-of-kind n k =
+    either-way Numbers (eqb n 1) (λ e h. eqb-true n 1 e ∙ ap knownNumber h)
+    (λ _. either-way Numbers (eqb n 2) (λ e h. eqb-true n 2 e ∙ ap knownNumber h)
+    (λ _. either-way Numbers (eqb n 3) (λ e h. eqb-true n 3 e ∙ ap knownNumber h) (λ _ h. absurd (unknown k (ap knownNumber h)))))
+  where
+    Numbers : Known → Type 0
+    Numbers known = known ≡ Is k → n ≡ numberOf k
 
 -- The number of a kind fits two bytes, its address four.
 pub kind-spelled : (k : Kind) → (numberOf k < 256 ^ 2) × (baseOf k < 256 ^ 4)

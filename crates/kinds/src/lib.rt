@@ -62,27 +62,27 @@ pub fn token_of(kind: Kind) -> u32
 }
 
 // Whether a file may carry an image of this length for the kind.
-pub fn fits_file(kind: Kind, length: usize) -> bool
-    ensures { λ r. ⌜ r ≡ fitsFile kind length ⌝ }
+pub fn fits_file(kind: Kind, extent: usize) -> bool
+    ensures { λ r. ⌜ r ≡ fitsFile kind extent ⌝ }
 {
-    if length == 0 {
+    if extent == 0 {
         return false;
     }
-    if IMAGE_MOST < length {
+    if IMAGE_MOST < extent {
         return false;
     }
-    length % 4 == 0
+    extent % 4 == 0
 }
 
 // Whether an image of this length, laid at the kind's address, lies within a flash.
-pub fn fits_flash(kind: Kind, length: usize, flash: usize) -> bool
-    ensures { λ r. ⌜ r ≡ fitsFlash kind length flash ⌝ }
+pub fn fits_flash(kind: Kind, extent: usize, flash: usize) -> bool
+    ensures { λ r. ⌜ r ≡ fitsFlash kind extent flash ⌝ }
 {
-    if length == 0 {
+    if extent == 0 {
         return false;
     }
-    if length > IMAGE_MOST {
+    if extent > IMAGE_MOST {
         return false;
     }
-    base_of(kind) as usize + length <= flash
+    base_of(kind) as usize + extent <= flash
 }

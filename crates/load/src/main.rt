@@ -94,7 +94,7 @@ fn load_nth(file: &[u8], n: usize, options: Options, port: Port) -> bool {
     match nth {
         Nth::Found { block, place } => {
             let kind = block.kind;
-            say::block(port.fd, n, kind, block.length);
+            say::block(port.fd, n, kind, block.extent);
             load_block(
                 port,
                 options,

@@ -6,12 +6,12 @@ use libc::STDERR_FILENO;
 use stages::Rate;
 
 // People count from 1.
-pub fn block(fd: i32, n: usize, kind: Kind, length: u32) {
+pub fn block(fd: i32, n: usize, kind: Kind, extent: u32) {
     voice::tell(fd, b"block \0: ", &[std::num::wrapping_add_usize(n, 1)]);
     voice::kind(fd, kind);
     voice::say(fd, b", address ");
     voice::word(fd, kinds::base_of(kind));
-    voice::tell(fd, b", length \0\n", &[length as usize]);
+    voice::tell(fd, b", length \0\n", &[extent as usize]);
 }
 
 pub fn refused(number: u8, place: usize) {

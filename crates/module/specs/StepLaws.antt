@@ -54,14 +54,14 @@ module _ (f : Frame) (before : List ℕ) (few : length (f .payload) ≤ shortPay
       → answer ≡ writes.Count n → Wrote f n before after
   wrote-one answer n after e told =
       let all : _≡_ {A = Out} (record { answer = answer; output = after }) (written.written (wireOf f) before) = e ∙ written-done in
-      let count : n ≡ length (wireOf f) = ap written.countOf (sym told) ∙ ap (λ o. written.countOf (o .answer)) all in
+      let count : n ≡ length (wireOf f) = ap written.countIn (sym told) ∙ ap (λ o. written.countIn (o .answer)) all in
       record { count = count; most = omega (arith, count, wire-most f); front = ap (λ o. o .output) all }
 
   pub wrote-never : (answer : Written) (n : ℕ) (after : List ℕ) → record { answer = answer; output = after } ≡ writeOf f before
       → answer ≡ writes.Refused n → ⊥
   unfolding wireOf
   wrote-never answer n after e told =
-      let none : 0 ≡ length (wireOf f) = ap written.countOf (sym told) ∙ ap (λ o. written.countOf (o .answer)) (e ∙ written-done) in
+      let none : 0 ≡ length (wireOf f) = ap written.countIn (sym told) ∙ ap (λ o. written.countIn (o .answer)) (e ∙ written-done) in
       omega (arith, none, wire-size (contentOf f))
 
 -- What is said is answered and stands in the reply buffer.

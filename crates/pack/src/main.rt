@@ -115,7 +115,7 @@ fn show(found: Found) {
         Found::Refused(number) => console::refusal(number),
         Found::Whole(block) => {
             let kind = block.kind;
-            console::placed(kind, block.length, block.start);
+            console::placed(kind, block.extent, block.start);
             console::say(b", check ");
             console::word(block.check);
         }

@@ -11,14 +11,18 @@ pub record Out : Type 0 where
   pub answer : Written
   pub output : List ℕ
 
--- What an answer says: the refusal number, or 0 and how many bytes were written.
-abbrev pub refusalOf : Written → ℕ
-refusalOf (Count n) = 0
-refusalOf (Refused n) = n
+-- What each case says in numbers. A refusal has document 01's number, and no byte is written. Bytes written are no refusal and have no
+-- number there; theirs, and that of every such answer, is from 100 on, as C is given it.
+abbrev pub bytesWritten : ℕ
+bytesWritten = 100
 
-abbrev pub countOf : Written → ℕ
-countOf (Count n) = n
-countOf (Refused n) = 0
+abbrev pub numberIn : Written → ℕ
+numberIn (Count n) = bytesWritten
+numberIn (Refused number) = number
+
+abbrev pub countIn : Written → ℕ
+countIn (Count n) = n
+countIn (Refused number) = 0
 
 -- A refusal leaves the output as lent.
 abbrev pub refused : ℕ → List ℕ → Out

@@ -3,8 +3,8 @@ ghost use mathlib.Core.Path.{_≡_};
 ghost use Prim.Native.Nat.{_+_, _^_, _≤_, _<_};
 ghost use lib.ListN.{length};
 ghost use Rattle.ubf_model.specs.Walk.{blockAt, nthFrom};
-use crate::block::read;
-use crate::block::size;
+use ubf_block::read;
+use ubf_block::size;
 use ubf_model::Found;
 use ubf_model::Nth;
 
@@ -15,15 +15,15 @@ pub fn block_at(file: &[u8], n: usize) -> Nth
     nth_from(file, 0, n, 0)
 }
 
-fn nth_from(rest: &[u8], place: usize, n: usize, passed: usize) -> Nth
-    requires { ⌜ (place + length (now rest) < 2 ^ 63) × (passed ≤ place) ⌝ }
-    ensures { λ r. ⌜ r ≡ nthFrom n passed place (now (rest .entry)) ⌝ }
+fn nth_from(rest: &[u8], place: usize, n: usize, counted: usize) -> Nth
+    requires { ⌜ (place + length (now rest) < 2 ^ 63) × (counted ≤ place) ⌝ }
+    ensures { λ r. ⌜ r ≡ nthFrom n counted place (now (rest .entry)) ⌝ }
 {
     match read(rest) {
         Found::Refused(number) => Nth::Refused {
             number,
             place,
-            count: passed,
+            count: counted,
         },
         Found::Whole(block) => {
             if n == 0 {
@@ -31,13 +31,13 @@ fn nth_from(rest: &[u8], place: usize, n: usize, passed: usize) -> Nth
             }
             let taken = size(block);
             if rest.len() <= taken {
-                return Nth::Past { count: passed + 1 };
+                return Nth::Past { count: counted + 1 };
             }
             nth_from(
                 octets::behind(rest, taken),
                 place + taken,
                 n - 1,
-                passed + 1,
+                counted + 1,
             )
         }
     }

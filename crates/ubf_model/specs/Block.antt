@@ -115,10 +115,14 @@ filledIn s = textsFit (modelIn s) (versionIn s) (nameIn s) (dateIn s) && allZero
 
 -- How many bytes the block takes: up to its image, the image, the check.
 abbrev pub sizeOf : Block → ℕ
-sizeOf b = b .start + b .length + 4
+sizeOf b = b .start + b .extent + 4
+
+-- The image of a block that was read, in the bytes that it was read from.
+abbrev pub imageOf : Block → List ℕ → List ℕ
+imageOf b s = partOf s (b .start) (b .extent)
 
 abbrev pub fieldsOf : Kind → List ℕ → Block
-fieldsOf k s = record { kind = k; length = lengthIn s; start = startIn s; check = checkIn s }
+fieldsOf k s = record { kind = k; extent = lengthIn s; start = startIn s; check = checkIn s }
 
 abbrev pub unless : Bool → ℕ → Found → Found
 unless t number rest = cond t rest (Refused number)

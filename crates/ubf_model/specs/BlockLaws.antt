@@ -18,7 +18,7 @@ use Rattle.ubf_model.specs.Block.{headerSize, markIn, mark, lengthIn, ad
 use Rattle.ubf_model.specs.Block.{fieldsOf, sizeOf, unless, kindBlock, knownBlock, blockOf}
 use Rattle.ubf_model.specs.declared.block.Block.{Block}
 use Rattle.ubf_model.specs.declared.block.Found.{Found}
-use Rattle.ubf_model.specs.declared.block.Found.the-variants.{Whole, Refused}
+use Rattle.ubf_model.specs.declared.block.Found.the-variants.{Whole}
 
 -- The facts that make the front of some bytes a block of a kind.
 pub record Good (k : Kind) (s : List ℕ) : Type 0 where
@@ -49,12 +49,6 @@ block-of-good k s g =
       eq-eqb (checkIn s) (xorWords (imageIn s)) (g .checked),
     )
 
--- The length is tested before the start: one that does not fit is named, wherever the image starts.
-pub length-first : (k : Kind) (s : List ℕ) → addressIn s ≡ baseOf k → fitsFile k (lengthIn s) ≡ false
-    → kindBlock k s ≡ Refused wrongImageLength
-unfolding kindBlock
-length-first k s based unfit = rw (eq-eqb (addressIn s) (baseOf k) based, unfit)
-
 -- A block that was read has a kind, the facts hold, and its fields are those of the bytes.
 pub record ReadGood (s : List ℕ) (b : Block) : Type 0 where
   pub kind : Kind
@@ -62,16 +56,16 @@ pub record ReadGood (s : List ℕ) (b : Block) : Type 0 where
   pub fields : b ≡ fieldsOf kind s
 
 -- Where a test stands before a block that was read, it was passed, and what stands behind it is the block.
-passed : (t : Bool) (number : ℕ) (rest : Found) (b : Block) → unless t number rest ≡ Whole b → (t ≡ true) × (rest ≡ Whole b)
-passed true number rest b h = (refl, h)
-passed false number rest b h = let z : _≡_ {A = ℕ} 0 1 = cc in absurd (omega arith)
+went-on : (t : Bool) (number : ℕ) (rest : Found) (b : Block) → unless t number rest ≡ Whole b → (t ≡ true) × (rest ≡ Whole b)
+went-on true number rest b h = (refl, h)
+went-on false number rest b h = let z : _≡_ {A = ℕ} 0 1 = cc in absurd (omega arith)
 
 -- A block that was read has passed every test.
 pub good-of-block : (s : List ℕ) (b : Block) → blockOf s ≡ Whole b → ReadGood s b
 unfolding blockOf kindBlock
 good-of-block s b h =
-    let header-there = passed (leb headerSize (length s)) fileEnds _ b h in
-    let mark-there = passed (sameBytes (markIn s) mark) wrongMark _ b (header-there .1) in
+    let header-there = went-on (leb headerSize (length s)) fileEnds _ b h in
+    let mark-there = went-on (sameBytes (markIn s) mark) wrongMark _ b (header-there .1) in
     let long = leb-true headerSize (length s) (header-there .0) in
     let marks = same-true (markIn s) mark (mark-there .0) in
     go (kindOf (typeIn s)) refl long marks (mark-there .1)
@@ -80,12 +74,12 @@ good-of-block s b h =
         → ReadGood s b
     go Unknown e long marks r = let z : _≡_ {A = ℕ} 0 1 = cc in absurd (omega arith)
     go (Is k) e long marks r =
-        let at-base = passed (eqb (addressIn s) (baseOf k)) wrongType _ b r in
-        let fits-file = passed (fitsFile k (lengthIn s)) wrongImageLength _ b (at-base .1) in
-        let starts = passed (leb headerSize (startIn s)) wrongStart _ b (fits-file .1) in
-        let ends = passed (leb (startIn s + lengthIn s + 4) (length s)) fileEnds _ b (starts .1) in
-        let zeros = passed (filledIn s) notZeroFilled _ b (ends .1) in
-        let right = passed (eqb (checkIn s) (xorWords (imageIn s))) wrongImageCheck _ b (zeros .1) in
+        let at-base = went-on (eqb (addressIn s) (baseOf k)) wrongType _ b r in
+        let fits-file = went-on (fitsFile k (lengthIn s)) wrongImageLength _ b (at-base .1) in
+        let starts = went-on (leb headerSize (startIn s)) wrongStart _ b (fits-file .1) in
+        let ends = went-on (leb (startIn s + lengthIn s + 4) (length s)) fileEnds _ b (starts .1) in
+        let zeros = went-on (filledIn s) notZeroFilled _ b (ends .1) in
+        let right = went-on (eqb (checkIn s) (xorWords (imageIn s))) wrongImageCheck _ b (zeros .1) in
         record {
           kind = k;
           good = record {

@@ -1,11 +1,11 @@
 -- The laws of writing: a block is its fields, each standing at its place.
-use Prim.Native.Nat.{ℕ, _+_, _-_, _≤_}
-use mathlib.Core.Bool.{true, false≢true}
+use Prim.Native.Nat.{ℕ, _+_, _-_, _≤_, _<_}
+use mathlib.Core.Bool.{Bool, true, false, false≢true}
 use mathlib.Core.List.{List, [], _++_, append-nil}
 use mathlib.Core.Path.{_≡_, refl, sym, ap, _∙_}
 use native.Mathlib.Omega.{arith}
-use borrow.Author.Tests.{eq-eqb, le-leb, leb-true}
-use lib.Dec.{leb}
+use borrow.Author.Tests.{eq-eqb, eqb-true, le-leb, leb-true}
+use lib.Dec.{eqb, leb}
 use lib.ListN.{length, take, replicate, length-append, length-replicate}
 use Rattle.octets.specs.Choice.{both}
 use Rattle.octets.specs.Octets.{spelled, partOf, allZero, zeroFilled, xorWords, laid, over, endToEnd, layAll}
@@ -17,10 +17,11 @@ use Rattle.kinds.specs.KindsLaws.{image-short}
 use Rattle.kinds.specs.declared.Kind.{Kind}
 use Rattle.kinds.specs.declared.Known.{Known}
 use Rattle.kinds.specs.declared.Known.the-variants.{Is, Unknown}
-use Rattle.refusals.specs.Written.{written}
+use Rattle.refusals.specs.Refusals.{noRoom, wrongType, wrongStart, wrongImageLength, notZeroFilled}
+use Rattle.refusals.specs.Written.{Out, bytesWritten, numberIn, written}
 use Rattle.ubf_model.specs.Block.{headerSize, markIn, mark, modelIn, versionIn, nameIn, dateIn, gapIn, textFits, textsFit, filledIn}
 use Rattle.ubf_model.specs.Block.{lengthPlace, addressPlace, startPlace, typePlace, modelSize, versionSize, nameSize, dateSize}
-use Rattle.ubf_model.specs.Pack.{headerPieces, bodyPieces, piecesOf, Fields, filled, blockBytes, bytesOf, textsIn, fits, packOf}
+use Rattle.ubf_model.specs.Pack.{headerPieces, bodyPieces, piecesOf, Fields, filled, blockBytes, bytesOf, textsIn, pairs, fits, unlessOut, packOf}
 
 -- ---- the texts
 
@@ -202,6 +203,54 @@ pack-passed k f output known based sized start texts room =
       texts,
       le-leb (bytesOf f) (length output) room,
     )
+
+-- The tests that fields have passed.
+pub record Accepted (f : Fields) (output : List ℕ) : Type 0 where
+  pub kind : Kind
+  pub known : kindOf (f .number) ≡ Is kind
+  pub based : f .address ≡ baseOf kind
+  pub sized : fitsFile kind (length (f .image)) ≡ true
+  pub behind-header : headerSize ≤ f .start
+  pub texts : textsIn f ≡ true
+  pub room : bytesOf f ≤ length output
+
+-- Where a test stands before an answer that bytes were written, it was passed, and what stands behind it is that answer.
+went-on : (t : Bool) (number : ℕ) (output : List ℕ) (rest : Out) → number < bytesWritten
+    → numberIn (unlessOut t number output rest .answer) ≡ bytesWritten → (t ≡ true) × (numberIn (rest .answer) ≡ bytesWritten)
+went-on true number output rest less h = (refl, h)
+went-on false number output rest less h = absurd (omega (arith, h))
+
+-- Fields that were written have passed every test.
+pub pack-accepted : (f : Fields) (output : List ℕ) → numberIn (packOf f output .answer) ≡ bytesWritten → Accepted f output
+unfolding packOf
+pack-accepted f output h = go (kindOf (f .number)) refl h
+  where
+    behindKind : Known → Out
+    behindKind known =
+        unlessOut (pairs known (f .address)) wrongType output
+        (unlessOut (fits known (length (f .image))) wrongImageLength output
+        (unlessOut (leb headerSize (f .start)) wrongStart output
+        (unlessOut (textsIn f) notZeroFilled output
+        (unlessOut (leb (bytesOf f) (length output)) noRoom output
+        (written (blockBytes f) output)))))
+
+    go : (known : Known) → kindOf (f .number) ≡ known → numberIn (behindKind known .answer) ≡ bytesWritten → Accepted f output
+    go Unknown e r = let z : wrongType ≡ bytesWritten = r in absurd (omega (arith, z))
+    go (Is k) e r =
+        let at-base = went-on (eqb (f .address) (baseOf k)) wrongType output _ (omega arith) r in
+        let fits-file = went-on (fitsFile k (length (f .image))) wrongImageLength output _ (omega arith) (at-base .1) in
+        let starts = went-on (leb headerSize (f .start)) wrongStart output _ (omega arith) (fits-file .1) in
+        let zeros = went-on (textsIn f) notZeroFilled output _ (omega arith) (starts .1) in
+        let ends = went-on (leb (bytesOf f) (length output)) noRoom output _ (omega arith) (zeros .1) in
+        record {
+          kind = k;
+          known = e;
+          based = eqb-true (f .address) (baseOf k) (at-base .0);
+          sized = fits-file .0;
+          behind-header = leb-true headerSize (f .start) (starts .0);
+          texts = zeros .0;
+          room = leb-true (bytesOf f) (length output) (ends .0);
+        }
 
 -- ---- what the writer lays adds up to the block
 

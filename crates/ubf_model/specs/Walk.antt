@@ -30,8 +30,8 @@ pub record Walked : Type 0 where
 abbrev pub ends : Ending → Walked
 ends e = record { blocks = []; ending = e }
 
-abbrev pub behind : Standing → Walked → Walked
-behind b w = record { blocks = b ∷ w .blocks; ending = w .ending }
+abbrev pub andThen : Standing → Walked → Walked
+andThen b w = record { blocks = b ∷ w .blocks; ending = w .ending }
 
 -- Where nothing is left, the file ends well; else the walk goes on from the next place.
 abbrev pub goOn : (ℕ → List ℕ → Walked) → ℕ → List ℕ → Walked
@@ -41,7 +41,7 @@ goOn next place (b ∷ bs) = next place (b ∷ bs)
 -- A faulty block ends the walk. Behind a good one it goes on with what remains.
 abbrev pub walkOn : (ℕ → List ℕ → Walked) → Found → ℕ → List ℕ → Walked
 walkOn next (Refused number) place s = ends (fault number place)
-walkOn next (Whole b) place s = behind (standing b place) (goOn next (place + sizeOf b) (drop (sizeOf b) s))
+walkOn next (Whole b) place s = andThen (standing b place) (goOn next (place + sizeOf b) (drop (sizeOf b) s))
 
 -- At most so many blocks; no file has more blocks than bytes.
 unfoldable pub walkBy : ℕ → ℕ → List ℕ → Walked

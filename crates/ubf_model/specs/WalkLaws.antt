@@ -6,7 +6,7 @@ use native.Mathlib.Omega.{arith}
 use lib.ListN.{length, drop, length-drop}
 use Rattle.ubf_model.specs.Block.{blockOf, sizeOf}
 use Rattle.ubf_model.specs.BlockLaws.{block-within, block-some}
-use Rattle.ubf_model.specs.Walk.{Walked, whole, fault, standing, ends, behind, goOn, walkOn, walkBy, walkFrom}
+use Rattle.ubf_model.specs.Walk.{Walked, whole, fault, standing, ends, andThen, goOn, walkOn, walkBy, walkFrom}
 use Rattle.ubf_model.specs.Walk.{nthOf, nthFrom}
 use Rattle.ubf_model.specs.declared.block.Block.{Block}
 use Rattle.ubf_model.specs.declared.block.Found.{Found}
@@ -43,7 +43,7 @@ walk-on-same next other place s same = go (blockOf s) refl
     go (Whole b) e =
         let rest : List ℕ = drop (sizeOf b) s in
         let less : length rest < length s = omega (arith, length-drop (sizeOf b) s, block-within s b e, block-some s b e) in
-        ap (behind (standing b place)) (go-on-same next other (place + sizeOf b) rest (same (place + sizeOf b) rest less))
+        ap (andThen (standing b place)) (go-on-same next other (place + sizeOf b) rest (same (place + sizeOf b) rest less))
 
 -- How many blocks a walk may take does not matter, once they are more than the bytes.
 pub walk-enough : (f g place : ℕ) (s : List ℕ) → length s < f → length s < g → walkBy f place s ≡ walkBy g place s
@@ -61,24 +61,24 @@ walk-step place s =
     (λ p t less. walk-enough (length s) (suc (length t)) p t less (omega arith))
 
 -- At a faulty block the walk ends.
-walk-refused : (place number : ℕ) (s : List ℕ) → blockOf s ≡ Refused number → walkFrom place s ≡ ends (fault number place)
+pub walk-refused : (place number : ℕ) (s : List ℕ) → blockOf s ≡ Refused number → walkFrom place s ≡ ends (fault number place)
 walk-refused place number s e = walk-step place s ∙ rw e
 
 -- At a good block the walk is that block, and behind it whatever the walk over what remains is.
 walk-good : (place : ℕ) (s : List ℕ) (b : Block) (w : Walked) → blockOf s ≡ Whole b
-    → goOn walkFrom (place + sizeOf b) (drop (sizeOf b) s) ≡ w → walkFrom place s ≡ behind (standing b place) w
-walk-good place s b w e rest = walk-step place s ∙ rw e (ap (behind (standing b place)) rest)
+    → goOn walkFrom (place + sizeOf b) (drop (sizeOf b) s) ≡ w → walkFrom place s ≡ andThen (standing b place) w
+walk-good place s b w e rest = walk-step place s ∙ rw e (ap (andThen (standing b place)) rest)
 
 -- At a good block that takes all bytes, nothing follows it.
 walk-last : (place : ℕ) (s : List ℕ) (b : Block) → blockOf s ≡ Whole b → sizeOf b ≡ length s
-    → walkFrom place s ≡ behind (standing b place) (ends whole)
+    → walkFrom place s ≡ andThen (standing b place) (ends whole)
 walk-last place s b e all =
     walk-good place s b (ends whole) e
     (go-on-end walkFrom (place + sizeOf b) (drop (sizeOf b) s) (omega (arith, length-drop (sizeOf b) s)))
 
 -- At a good block that leaves some bytes, the walk over these follows it.
 walk-next : (place : ℕ) (s : List ℕ) (b : Block) → blockOf s ≡ Whole b → sizeOf b < length s
-    → walkFrom place s ≡ behind (standing b place) (walkFrom (place + sizeOf b) (drop (sizeOf b) s))
+    → walkFrom place s ≡ andThen (standing b place) (walkFrom (place + sizeOf b) (drop (sizeOf b) s))
 walk-next place s b e more =
     walk-good place s b (walkFrom (place + sizeOf b) (drop (sizeOf b) s)) e
     (go-on-more walkFrom (place + sizeOf b) (drop (sizeOf b) s) (omega (arith, length-drop (sizeOf b) s)))

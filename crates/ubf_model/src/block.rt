@@ -35,7 +35,7 @@ pub const DATE_SIZE: usize = 32;
 // The fields of a block. Its texts and its image stay in the caller's file.
 pub struct Block {
     pub kind: Kind,
-    pub length: u32,
+    pub extent: u32,
     pub start: u32,
     pub check: u32,
 }

@@ -1,14 +1,18 @@
--- U2: the walk's blocks, laid end to end, are the file; or the first faulty block is given, and all before it is right.
+-- U2: the walk's blocks, laid end to end, are the file; or the first faulty block is given, and all before it is right. An empty file
+-- is refused.
 use Prim.Native.Nat.{ℕ, zero, suc, _+_, _-_, _≤_, _<_}
 use mathlib.Core.List.{List, [], _∷_}
 use mathlib.Core.Path.{_≡_, refl, ap}
 use native.Mathlib.Omega.{arith}
 use lib.ListN.{length, drop, length-drop}
 use lib.Seq.{drop-drop}
+use Rattle.refusals.specs.Refusals.{fileEnds}
+use Rattle.ubf_model.specs.Answers.{foundTold, nthTold}
 use Rattle.ubf_model.specs.Block.{blockOf, sizeOf}
 use Rattle.ubf_model.specs.BlockLaws.{block-within, block-some}
-use Rattle.ubf_promises.specs.Promises.{EndsFrom, WalkLaid}
-use Rattle.ubf_model.specs.Walk.{Standing, standing, Ending, whole, fault, Walked, goOn, walkOn, walkBy, walkFrom, walkOf}
+use Rattle.ubf_model.specs.WalkLaws.{walk-refused, nth-refused}
+use Rattle.ubf_promises.specs.Promises.{EndsFrom, WalkLaid, EmptyFile}
+use Rattle.ubf_model.specs.Walk.{Standing, standing, Ending, whole, fault, Walked, goOn, walkOn, walkBy, walkFrom}
 use Rattle.ubf_model.specs.declared.block.Block.{Block}
 use Rattle.ubf_model.specs.declared.block.Found.{Found}
 use Rattle.ubf_model.specs.declared.block.Found.the-variants.{Whole, Refused}
@@ -34,7 +38,7 @@ module _ (file : List ℕ) where
   walk-on-lays : (next : ℕ → List ℕ → Walked) (place : ℕ) → place ≤ length file - 1
       → ((p : ℕ) → place < p → p ≤ length file - 1 → Lays file p (next p (drop p file)))
       → (x : Found) → blockOf (drop place file) ≡ x → Lays file place (walkOn next x place (drop place file))
-  walk-on-lays next place within later (Refused number) e = (refl, e, omega arith)
+  walk-on-lays next place within later (Refused number) e = (refl, ap foundTold e, omega arith)
   walk-on-lays next place within later (Whole b) e =
       let s : List ℕ = drop place file in
       let on : ℕ = place + sizeOf b in
@@ -58,3 +62,12 @@ module _ (file : List ℕ) where
 pub walk-laid : WalkLaid
 unfolding walkFrom
 walk-laid file = walk-by-lays file (suc (length file)) 0 (omega arith) (omega arith)
+
+-- No byte is there, and 208 are asked for.
+no-header : blockOf [] ≡ Refused fileEnds
+unfolding blockOf
+no-header = refl
+
+-- An empty file is refused with 4.
+pub empty-file : EmptyFile
+empty-file = (walk-refused 0 fileEnds [] no-header, λ n. ap nthTold (nth-refused n 0 0 fileEnds [] no-header))

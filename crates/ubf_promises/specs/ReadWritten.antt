@@ -1,7 +1,7 @@
 -- What was written is read again.
 use Prim.Native.Nat.{ℕ, _+_, _-_, _≤_}
 use mathlib.Core.List.{List, _++_}
-use mathlib.Core.Path.{_≡_, _∙_}
+use mathlib.Core.Path.{_≡_, sym, ap, _∙_}
 use native.Mathlib.Omega.{arith}
 use lib.ListN.{length, length-append}
 use Rattle.octets.specs.Octets.{xorWords}
@@ -9,12 +9,27 @@ use Rattle.octets.specs.PartLaws.{number-of-part, zeros-zero, xor-words-lt}
 use Rattle.kinds.specs.Kinds.{numberOf, baseOf}
 use Rattle.kinds.specs.KindsLaws.{kind-of-number, kind-spelled, image-short}
 use Rattle.kinds.specs.declared.Kind.{Kind}
-use Rattle.ubf_model.specs.Block.{headerSize, lengthIn, addressIn, startIn, typeIn, imageIn, checkIn}
+use Rattle.ubf_model.specs.Answers.{foundTold}
+use Rattle.ubf_model.specs.Block.{headerSize, blockOf, modelIn, versionIn, nameIn, dateIn, lengthIn, addressIn, startIn, typeIn, imageIn, checkIn}
 use Rattle.ubf_model.specs.Block.{lengthPlace, addressPlace, startPlace, typePlace, modelSize, versionSize, nameSize, dateSize}
 use Rattle.ubf_model.specs.BlockLaws.{Good, block-of-good}
 use Rattle.ubf_model.specs.Pack.{Fields, blockBytes, bytesOf}
 use Rattle.ubf_model.specs.PackLaws.{texts-of-test, test-of-texts, filled-fits, test-of-filled, FieldsStand, length-block, fields-of-block, pack-passed}
-use Rattle.ubf_promises.specs.Promises.{fieldsIn, Packable, ReadWritten, PackWrites}
+use Rattle.ubf_model.specs.declared.block.Found.the-variants.{Whole}
+use Rattle.ubf_promises.specs.Promises.{Packable, blockFor, ReadWritten, PackWrites}
+
+-- The fields of a block as the bytes have them.
+abbrev pub fieldsIn : List ℕ → Fields
+fieldsIn s = record {
+  number = typeIn s;
+  address = addressIn s;
+  start = startIn s;
+  model = modelIn s;
+  version = versionIn s;
+  name = nameIn s;
+  date = dateIn s;
+  image = imageIn s;
+}
 
 -- The numbers of a block, where its fields stand in some bytes.
 record NumbersIn (k : Kind) (f : Fields) (s : List ℕ) : Type 0 where
@@ -72,13 +87,14 @@ read-written k f rest p =
     let t = fields-of-block f rest (p .behind-header) fit in
     let n = numbers-in k f s p t in
     let room : bytesOf f ≤ length s = rw (length-append, length-block f (p .behind-header) fit) (omega arith) in
+    let found : blockOf s ≡ Whole (blockFor k f) = block-of-good k s (good-written k f s p t n room) ∙ rw (n .check, n .long, n .begins) in
     record {
-      fields = block-of-good k s (good-written k f s p t n room) ∙ rw (n .check, n .long, n .begins);
+      fields = ap foundTold found;
       model = t .model-there;
       version = t .version-there;
       name = t .name-there;
       date = t .date-there;
-      image = n .image;
+      image = λ b e. let same : b ≡ blockFor k f = cc (sym e ∙ found) in rw same (t .image-there);
     }
 
 -- Fields that pass the tests are written as that block, wherever the output has room.

@@ -7,14 +7,16 @@ use native.Mathlib.Omega.{arith}
 use lib.ListN.{length, take, replicate}
 use Rattle.octets.specs.Octets.{Bytes, partOf}
 use Rattle.octets.specs.PartLaws.{length-part, part-of-number, zeros-of-zero}
+use Rattle.kinds.specs.KindsLaws.{number-of-kind}
 use Rattle.kinds.specs.declared.Kind.{Kind}
 use Rattle.refusals.specs.Written.{written}
-use Rattle.ubf_model.specs.Block.{headerSize, lengthIn, startIn, modelIn, versionIn, nameIn, dateIn, gapIn, imageIn}
+use Rattle.ubf_model.specs.Block.{headerSize, lengthIn, startIn, typeIn, fieldsOf, modelIn, versionIn, nameIn, dateIn, gapIn, imageIn}
 use Rattle.ubf_model.specs.Block.{lengthPlace, addressPlace, startPlace, typePlace, modelPlace, versionPlace, namePlace, datePlace, modelSize, versionSize, nameSize, dateSize}
 use Rattle.ubf_model.specs.BlockLaws.{Good, good-of-block}
 use Rattle.ubf_model.specs.Pack.{textsIn, blockBytes, packOf}
 use Rattle.ubf_model.specs.PackLaws.{filled-full, filled-of-test, FieldsStand, block-of-fields, pack-passed}
-use Rattle.ubf_promises.specs.Promises.{fieldsIn, WrittenRead}
+use Rattle.ubf_promises.specs.Promises.{ourReader, fieldsRead, WrittenRead}
+use Rattle.ubf_promises.specs.ReadWritten.{fieldsIn}
 
 module _ (k : Kind) (s : List ℕ) (g : Good k s) where
   -- The image is as long as the header says.
@@ -56,6 +58,10 @@ module _ (k : Kind) (s : List ℕ) (g : Good k s) where
   block-again : Bytes s → blockBytes (fieldsIn s) ≡ take (startIn s + lengthIn s + 4) s
   block-again b = rw image-long at (block-of-fields (fieldsIn s) s (g .behind-header) (fields-stand b))
 
+  -- They are the fields of the block that was read.
+  fields-same : fieldsRead ourReader (fieldsOf k s) s ≡ fieldsIn s
+  fields-same = rw (number-of-kind (typeIn s) k (g .known), g .based)
+
   -- The writer passes the fields that were read, and writes those bytes.
   packs : Bytes s → (output : List ℕ) → startIn s + lengthIn s + 4 ≤ length output
       → packOf (fieldsIn s) output ≡ written (take (startIn s + lengthIn s + 4) s) output
@@ -67,4 +73,6 @@ module _ (k : Kind) (s : List ℕ) (g : Good k s) where
 pub written-read : WrittenRead
 written-read s b bytes h output room =
     let r = good-of-block s b h in
-    rw (r .fields) (packs (r .kind) s (r .good) bytes output (rw (r .fields) at room))
+    let k = r .kind in
+    let g = r .good in
+    rw (r .fields, fields-same k s g) (packs k s g bytes output (rw (r .fields) at room))

@@ -8,11 +8,11 @@ use Rattle.kinds.proofs.fits_flash.Tie as tie
 
 returns : tie.Need-returns
 unfolding fitsFlash
-returns c = let n = c .before .args .length in rw (lt-leb 1 n (omega arith))
+returns c = let n = c .before .args .extent in rw (lt-leb 1 n (omega arith))
 
 returns-2 : tie.Need-returns-2
 unfolding fitsFlash
-returns-2 c = let n = c .before .before .args .length in rw (le-leb 1 n (omega arith), lt-leb n longestImage (omega arith))
+returns-2 c = let n = c .before .before .args .extent in rw (le-leb 1 n (omega arith), lt-leb n longestImage (omega arith))
 
 base-of-requires : tie.Need-base-of-requires
 base-of-requires c κs = search needs
@@ -26,7 +26,7 @@ add-result c = search needs
 returns-3 : tie.Need-returns-3
 unfolding fitsFlash
 returns-3 c =
-    let n = c .before .before .before .args .length in
+    let n = c .before .before .before .args .extent in
     rw (le-leb 1 n (omega arith), le-leb n longestImage (omega arith), c .base-of .ensures)
 
 pub fits-flash-spec : {M : Type 1} → statement M

@@ -8,7 +8,7 @@ use Rattle.exports.proofs.files.zrn_ubf_read.Tie as tie
 use Rattle.exports.proofs.files.zrn_ubf_read.Reads as reads
 use Rattle.exports.proofs.files.zrn_ubf_read.Lts as lts
 use Rattle.exports.proofs.files.numbers_in.Reads as numbers-in-reads
-use Rattle.ubf.proofs.read.Reads as read-reads
+use Rattle.ubf_block.proofs.read.Reads as read-reads
 
 -- src/files.rt:90:28
 read-requires : tie.Need-read-requires

@@ -8,7 +8,7 @@ use Rattle.exports.proofs.files.zrn_ubf_write.Reads as reads
 use Rattle.exports.proofs.files.zrn_ubf_write.Lts as lts
 use Rattle.exports.proofs.frames.count_of.Reads as count-of-reads
 use Rattle.exports.proofs.frames.number_of.Reads as number-of-reads
-use Rattle.ubf.proofs.write.Reads as write-reads
+use Rattle.ubf_block.proofs.write.Reads as write-reads
 
 -- src/files.rt:210:9
 write-requires : tie.Need-write-requires

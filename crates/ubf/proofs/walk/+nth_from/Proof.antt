@@ -15,8 +15,8 @@ use Rattle.ubf.proofs.walk.nth_from.Reads as nth-from
 use Rattle.ubf.proofs.walk.nth_from.Kinds as nth-from-kinds
 use Rattle.ubf.proofs.walk.+nth_from.Lts-nth_from as nth-from-lts
 use Rattle.octets.proofs.behind.Reads as behind-reads
-use Rattle.ubf.proofs.block.read.Reads as read-reads
-use Rattle.ubf.proofs.block.size.Reads as size-reads
+use Rattle.ubf_block.proofs.read.Reads as read-reads
+use Rattle.ubf_block.proofs.size.Reads as size-reads
 use Rattle.ubf.proofs.walk.+nth_from.{statement}
 use Rattle.ubf.proofs.walk.+nth_from.Tie.{close}
 
@@ -79,7 +79,7 @@ nth-from-returns : (t : ℕ) → nth-from-lts.Need-returns (
 nth-from-returns t c =
     let a = c .before .before .before .before .before .before .args in
     let whole = sym (c .before .before .before .before .read .ensures) ∙ c .before .before .block .given .1 in
-    rw (c .if1 .taken) (sym (nth-here (a .passed) (a .place) (a .rest .now) _ whole))
+    rw (c .if1 .taken) (sym (nth-here (a .counted) (a .place) (a .rest .now) _ whole))
 
 nth-from-size-requires : (t : ℕ) → nth-from-lts.Need-size-requires (
   read-reads.Asked,
@@ -120,7 +120,7 @@ nth-from-returns-2 t c =
     let whole = sym (c .before .before .before .before .before .before .read .ensures) ∙ c .before .before .before .before .block .given .1 in
     let within = block-within (a .rest .now) _ whole in
     let more : a .n ≡ suc (a .n - 1) = omega (arith, c .before .before .if1 .left) in
-    rw (more, add-one) (sym (nth-last (a .n - 1) (a .passed) (a .place) (a .rest .now) _ whole (omega (arith, within, c .before .size .ensures))))
+    rw (more, add-one) (sym (nth-last (a .n - 1) (a .counted) (a .place) (a .rest .now) _ whole (omega (arith, within, c .before .size .ensures))))
 
 nth-from-behind-requires : (t : ℕ) → nth-from-lts.Need-behind-requires (
   read-reads.Asked,
@@ -204,7 +204,7 @@ nth-from-returns-3 : (t : ℕ) → nth-from-lts.Need-returns-3 (
 ) (nth-from-at t) nth-from.Post
 nth-from-returns-3 t c =
     let a = c .before .before .before .before .before .args in
-    sym (nth-refused (a .n) (a .passed) (a .place) _ (a .rest .now) (sym (c .before .before .before .read .ensures) ∙ c .before .number .given .1))
+    sym (nth-refused (a .n) (a .counted) (a .place) _ (a .rest .now) (sym (c .before .before .before .read .ensures) ∙ c .before .number .given .1))
 
 nth-from-returns-4 : (t : ℕ) → nth-from-lts.Need-returns-4 (
   read-reads.Asked,
@@ -224,7 +224,7 @@ nth-from-returns-4 t c =
     let more : a .n ≡ suc (a .n - 1) = omega (arith, c .before .before .before .before .if1 .left) in
     let rest : now (c .before .behind .result) ≡ drop (sizeOf found) (a .rest .now) = c .before .behind .ensures ∙ ap (λ k. drop k (a .rest .now)) taken in
     c .nth-from .ensures
-    ∙ rw (add-one, taken, rest) (rw (← more) at (sym (nth-next (a .n - 1) (a .passed) (a .place) (a .rest .now) _ whole (omega (arith, c .before .before .if2 .left)))))
+    ∙ rw (add-one, taken, rest) (rw (← more) at (sym (nth-next (a .n - 1) (a .counted) (a .place) (a .rest .now) _ whole (omega (arith, c .before .before .if2 .left)))))
 
 pub +nth-from-spec : {M : Type 1} → statement M
 +nth-from-spec = close μ-nth-from λ t. nth-from-lts.spec (
