@@ -14,10 +14,10 @@ use Rattle.wire.specs.Frame.{Frame, frame, longestPayload, wireOf}
 use Rattle.commands.specs.Commands.{parametersFrame, packetFrame}
 use Rattle.reader.specs.Reader.{framesIn, framesOf, payloadIn}
 use Rattle.reader.specs.Reader as reader
-use Rattle.reader.specs.Runs.{Placed, placed, handedFrom}
-use Rattle.reader.specs.Promises.{Any}
-use Rattle.reader.specs.SeenLaws.{step-size}
-use Rattle.reader.specs.RoundTrip.{round-trip}
+use Rattle.reader_promises.specs.Runs.{Placed, placed, handedFrom, handedBy}
+use Rattle.reader_promises.specs.Promises.{Any}
+use Rattle.reader_promises.specs.SeenLaws.{step-size}
+use Rattle.reader_promises.specs.RoundTrip.{round-trip}
 use Rattle.reader.specs.declared.steps.Reader.{Reader}
 use Rattle.reader.specs.declared.steps.Heard.{Heard}
 use Rattle.reader.specs.declared.steps.Heard.the-variants.{Nothing, Frame as Whole, Dropped}
@@ -143,7 +143,7 @@ frame-now b flash x f r a room h = record {
 -- Bytes in which the reader hands out a frame at the last.
 fed-handed : (xs : List Fed) (b : Board) (flash : List ℕ) (k : ℕ) (f : Frame) → Any (b .reader) → Roomy xs
     → handedFrom (b .reader) k (bytesOf xs) ≡ placed (k + length xs - 1) f ∷ [] → FrameFed b flash xs f
-unfolding handedFrom boardHears
+unfolding handedBy boardHears
 fed-handed [] b flash k f a room e = absurd (not-none (sym e))
 fed-handed (x ∷ []) b flash k f a room e =
     let step = reader.stepOf (b .reader) (x .byte) in

@@ -11,7 +11,7 @@ use Rattle.kinds.specs.declared.Kind.{Kind}
 use Rattle.pieces.specs.Pieces.{countOf}
 use Rattle.wire.specs.Frame.{Frame}
 use Rattle.commands.specs.Commands.{accepted, largestPacket, largestTotal, notice, packetReply}
-use Rattle.reader.specs.Promises.{Any}
+use Rattle.reader_promises.specs.Promises.{Any}
 use Rattle.host_model.specs.Answers.{pieceSize}
 use Rattle.host_model.specs.declared.plan.Rate.{Rate}
 use Rattle.host_model.specs.declared.plan.Stage.the-variants.{Restarting}

@@ -8,10 +8,10 @@ use Rattle.wire.specs.Escape.{headMark}
 use Rattle.wire.specs.Frame.{Frame, Acceptable, wireOf, longestPayload}
 use Rattle.wire.specs.Write.{writeOf}
 use Rattle.refusals.specs.Written.{written}
 use Rattle.reader.specs.Reader.{fresh}
-use Rattle.reader.specs.Table.{Row, benchTable, printedRow}
-use Rattle.reader.specs.Runs.{Placed, placed, later, handedOf, RisingFrom}
+use Rattle.reader_promises.specs.Table.{Row, benchTable, printedRow}
+use Rattle.reader_promises.specs.Runs.{Placed, placed, later, handedOf, RisingFrom}
 use Rattle.reader.specs.declared.steps.Reader.{Reader}
 
 -- A reader as the language makes one: its store has 1,035 bytes. Count and flags are any.
 abbrev pub Any : Reader → Type 0

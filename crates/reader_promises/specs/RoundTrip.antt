@@ -8,11 +8,11 @@ use lib.ListN.{length}
 use lib.Seq.{drop-at, take-append-seam}
 use Rattle.wire.specs.Frame.{wireOf}
 use Rattle.wire.specs.WriteLaws.{write-done}
-use Rattle.reader.specs.Promises.{RoundTrip, ReadBack, StandsIn, upTo}
-use Rattle.reader.specs.Seen.{seenOf}
-use Rattle.reader.specs.SeenLaws.{handed-seen}
-use Rattle.reader.specs.Feed.{handed-frame}
-use Rattle.reader.specs.Stretches.{every-stretch}
+use Rattle.reader_promises.specs.Promises.{RoundTrip, ReadBack, StandsIn, upTo}
+use Rattle.reader_promises.specs.Seen.{seenOf}
+use Rattle.reader_promises.specs.SeenLaws.{handed-seen}
+use Rattle.reader_promises.specs.Feed.{handed-frame}
+use Rattle.reader_promises.specs.Stretches.{every-stretch}
 
 -- From any reader, by its view.
 pub round-trip : RoundTrip
