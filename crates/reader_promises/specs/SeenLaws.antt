@@ -21,7 +21,7 @@ use Rattle.reader.specs.Reader.{payloadIn, framesIn, framesOf}
 use Rattle.reader.specs.Reader.{judgedBy, movedBy, knownStep, stepOf}
 use Rattle.reader.specs.Moves.{contentMove, followMove, tailMove, insideMove, moveOf, Does, passes, begins, waits}
 use Rattle.reader_promises.specs.Runs.{later, handedBy, handedFrom, handedOf}
-use Rattle.reader_promises.specs.Promises.{Any}
+use Rattle.reader_promises.specs.Promises.{Made}
 use Rattle.octets.specs.Choice.{by-test, either-way}
 use Rattle.octets.specs.Lists.{part-take}
 use Rattle.reader_promises.specs.Seen.{Seen, outside, within, seenIn, seenOf, Sight, quiet, hands}
@@ -153,7 +153,7 @@ unfolding fresh
 fresh-known = record { size = length-replicate {A = ℕ} longestContent 0; low = omega arith }
 
 -- Any reader is known, as it is taken.
-known-of : (r : Reader) → Any r → Known (knownOf r)
+known-of : (r : Reader) → Made r → Known (knownOf r)
 unfolding knownOf
 known-of r a =
     either-way Known (leb (r .count) longestContent)
@@ -166,30 +166,30 @@ unfolding knownOf
 known-same r k = rw (le-leb (r .count) longestContent (k .low))
 
 -- Every byte to any reader.
-any-seen : (r : Reader) → Any r → (b : ℕ) → SeenAs (stepOf r b) (sightOf (seenOf r) b)
+any-seen : (r : Reader) → Made r → (b : ℕ) → SeenAs (stepOf r b) (sightOf (seenOf r) b)
 unfolding stepOf seenOf
 any-seen r a b = known-seen (knownOf r) (known-of r a) b
 
 -- The reader after a step is known: the store keeps its size, and the count is in it.
-pub step-known : (r : Reader) → Any r → (b : ℕ) → Known (stepOf r b .reader)
+pub step-known : (r : Reader) → Made r → (b : ℕ) → Known (stepOf r b .reader)
 step-known r a b = any-seen r a b .known
 
-pub step-size : (r : Reader) → Any r → (b : ℕ) → Any (stepOf r b .reader)
+pub step-size : (r : Reader) → Made r → (b : ℕ) → Made (stepOf r b .reader)
 step-size r a b = step-known r a b .size
 
 -- The view of the reader after a step is the view's step.
-pub step-seen : (r : Reader) → Any r → (b : ℕ) → seenOf (stepOf r b .reader) ≡ seenStep (seenOf r) b
+pub step-seen : (r : Reader) → Made r → (b : ℕ) → seenOf (stepOf r b .reader) ≡ seenStep (seenOf r) b
 unfolding seenOf
 step-seen r a b = ap seenIn (known-same (stepOf r b .reader) (any-seen r a b .known)) ∙ any-seen r a b .after
 
 -- The frames that a step hands out are those of the view's step.
-pub step-frames : (r : Reader) → Any r → (b : ℕ) → framesOf (stepOf r b) ≡ seenFrames (seenOf r) b
+pub step-frames : (r : Reader) → Made r → (b : ℕ) → framesOf (stepOf r b) ≡ seenFrames (seenOf r) b
 step-frames r a b = any-seen r a b .handed
 
 -- ---- runs
 
 -- A run of any reader hands out what the run of its view does.
-pub handed-seen : (r : Reader) → Any r → (k : ℕ) (bs : List ℕ) → handedFrom r k bs ≡ seenHanded (seenOf r) k bs
+pub handed-seen : (r : Reader) → Made r → (k : ℕ) (bs : List ℕ) → handedFrom r k bs ≡ seenHanded (seenOf r) k bs
 unfolding handedBy seenHanded
 handed-seen r a k [] = refl
 handed-seen r a k (b ∷ bs) =
