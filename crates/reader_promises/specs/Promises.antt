@@ -10,6 +10,7 @@ use Rattle.wire.specs.Frame.{Frame, frame, Acceptable, wireOf, longestPayload}
 use Rattle.wire.specs.Marks.{Form}
 use Rattle.wire.specs.Write.{writeOf}
 use Rattle.refusals.specs.Written.{Out, written}
+use Rattle.refusals.specs.declared.Written.the-variants.{Refused}
 use Rattle.reader.specs.Reader.{fresh, stepOf}
 use Rattle.commands.specs.Commands.{rateFrame, rateReply, parametersCommand, parametersFor, parametersReply, packetReply, restartFrame, notice, accepted}
 use Rattle.kinds.specs.declared.Kind.{Kind}
@@ -56,6 +57,13 @@ ReadBackOf step write =
 
 abbrev pub ReadBack : Type 0
 ReadBack = ReadBackOf stepOf writeOf
+
+-- A frame that the writer refuses leaves the output as lent (RoundTrip.antt).
+abbrev pub RefusedAsLentOf : Writer → Type 0
+RefusedAsLentOf write = (f : Frame) (output : List ℕ) (n : ℕ) → write f output .answer ≡ Refused n → write f output .output ≡ output
+
+abbrev pub RefusedAsLent : Type 0
+RefusedAsLent = RefusedAsLentOf writeOf
 
 -- W2, resynchronisation (Resync.antt). After any bytes to any reader, from the next head on the frames handed out are those that
 -- a fresh reader hands out, their places counted on. (EveryStretch says which those are.)

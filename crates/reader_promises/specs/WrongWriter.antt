@@ -4,11 +4,12 @@ use mathlib.Core.Bool.{cond}
 use mathlib.Core.List.{List, [], _∷_, _++_, List·Memᴰ·head, List·Memᴰ·tail}
 use mathlib.Core.Path.{_≡_, refl, sym, ap, _∙_}
 use native.Mathlib.Omega.{arith}
-use lib.Dec.{eqb}
+use lib.Dec.{eqb, ltb}
 use lib.ListN.{length, getD, take, drop, replicate, length-append, length-replicate}
 use lib.Seq.{take-at}
 use Rattle.octets.specs.Octets.{Bytes, little, spelled, numberAt, xorFrom, xorOf, partOf, over}
-use Rattle.refusals.specs.Written.{Out}
+use Rattle.refusals.specs.Refusals.{noRoom}
+use Rattle.refusals.specs.Written.{Out, refused}
 use Rattle.kinds.specs.Kinds.{numberOf, tokenOf}
 use Rattle.kinds.specs.declared.Kind.{Kind}
 use Rattle.wire.specs.Escape.{headMark, tailMark, isMark, secondOf, mayFollow, originalOf, escapeOf, escaped}
@@ -19,7 +20,7 @@ use Rattle.commands.specs.Commands.{rateFrame, restartFrame, notice}
 use Rattle.reader.specs.Moves.{contentMove, followMove, tailMove, insideMove, moveOf}
 use Rattle.reader.specs.Reader.{fresh, knownOf, heldOf, knownStep, stepOf}
 use Rattle.reader_promises.specs.Runs.{placed, handedBy}
-use Rattle.reader_promises.specs.Promises.{Writer, RoundTripOf, ReadBackOf, BenchTableOf, BenchFramesOf}
+use Rattle.reader_promises.specs.Promises.{Writer, RoundTripOf, ReadBackOf, RefusedAsLentOf, BenchTableOf, BenchFramesOf}
 use Rattle.reader_promises.specs.Table.{Row}
 use Rattle.reader_promises.specs.SeenLaws.{fresh-known}
 
@@ -61,6 +62,19 @@ leaves-payload-out-refuted promise =
     let same = promise success success-bytes (placed 7 (notice 0)) (rw success-handed (List·Memᴰ·head refl)) success (omega arith) in
     let second : _≡_ {A = ℕ} 3 4 = ap (λ (o : Out). getD (o .output) 1 0) same in
     omega (arith, second)
+
+-- ---- the output of a refusal
+
+-- Our writer, but the bytes that fit are written before the room is tested.
+abbrev pub writesFirst : Writer
+writesFirst f output =
+    cond (ltb (length output) (length (wireOf f))) (refused noRoom (over (take (length output) (wireOf f)) output)) (writeOf f output)
+
+pub writes-first-refuted : RefusedAsLentOf writesFirst → ⊥
+unfolding wireOf wireForm contentOf uncheckedOf spelled xorFrom escaped escapeOf isMark over
+writes-first-refuted promise =
+    let first : _≡_ {A = ℕ} 0xDB 0x00 = ap (λ (l : List ℕ). getD l 0 0) (promise restartFrame (0x00 ∷ []) noRoom refl) in
+    omega (arith, first)
 
 -- ---- W4: the check leaves the device out
 
