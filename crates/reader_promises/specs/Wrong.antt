@@ -24,17 +24,17 @@ use Rattle.reader_promises.specs.SeenLaws.{fresh-known}
 use Rattle.reader_promises.specs.Table.{Row, benchTable}
 
 -- The restart frame on the wire.
-abbrev restart : List ℕ
-restart = 0xDB ∷ 0x03 ∷ 0x00 ∷ 0x01 ∷ 0x06 ∷ 0x04 ∷ 0xDE ∷ []
+abbrev restartBytes : List ℕ
+restartBytes = 0xDB ∷ 0x03 ∷ 0x00 ∷ 0x01 ∷ 0x06 ∷ 0x04 ∷ 0xDE ∷ []
 
-restart-bytes : Bytes restart
-restart-bytes = (omega arith, (omega arith, (omega arith, (omega arith, (omega arith, (omega arith, (omega arith, tt)))))))
+restart-are-bytes : Bytes restartBytes
+restart-are-bytes = (omega arith, (omega arith, (omega arith, (omega arith, (omega arith, (omega arith, (omega arith, tt)))))))
 
-restart-form : wireOf restartFrame ≡ restart
+restart-form : wireOf restartFrame ≡ restartBytes
 unfolding wireOf wireForm contentOf uncheckedOf spelled xorFrom escaped escapeOf isMark secondOf
 restart-form = refl
 
-restart-stands : StandsIn restart (wireOf restartFrame) 6
+restart-stands : StandsIn restartBytes (wireOf restartFrame) 6
 restart-stands = rw restart-form (record { before = []; after = []; split = refl; ends = refl })
 
 restart-acceptable : Acceptable restartFrame
@@ -55,7 +55,7 @@ unsaid Dropped = Dropped
 abbrev pub handsOutNothing : Step
 handsOutNothing r b = answers (unsaid (stepOf r b .heard)) (stepOf r b .reader)
 
-nothing-handed : handedBy handsOutNothing fresh 0 restart ≡ []
+nothing-handed : handedBy handsOutNothing fresh 0 restartBytes ≡ []
 unfolding handedBy stepOf knownStep knownOf fresh moveOf insideMove tailMove contentMove heldOf verdictOf numberAt little xorFrom
 nothing-handed = refl
 
@@ -65,11 +65,11 @@ hands-out-nothing-round-trip-refuted promise =
 
 pub hands-out-nothing-stretches-refuted : EveryStretchOf handsOutNothing → ⊥
 hands-out-nothing-stretches-refuted promise =
-    List·Memᴰ·not-nil (rw nothing-handed at (promise restart restart-bytes .complete restartFrame 6 restart-acceptable restart-stands))
+    List·Memᴰ·not-nil (rw nothing-handed at (promise restartBytes restart-are-bytes .complete restartFrame 6 restart-acceptable restart-stands))
 
 pub hands-out-nothing-table-refuted : BenchTableOf handsOutNothing wireOf → ⊥
 hands-out-nothing-table-refuted promise =
-    let row : Row = record { frame = restartFrame; bytes = restart } in
+    let row : Row = record { frame = restartFrame; bytes = restartBytes } in
     let sixth : List·Memᴰ row benchTable =
     List·Memᴰ·tail (List·Memᴰ·tail (List·Memᴰ·tail (List·Memᴰ·tail (List·Memᴰ·tail (List·Memᴰ·head refl))))) in
     one-more _ (sym nothing-handed ∙ promise row sixth .1)
@@ -105,19 +105,19 @@ raised Dropped = Dropped
 abbrev pub raisesCommand : Step
 raisesCommand r b = answers (raised (stepOf r b .heard)) (stepOf r b .reader)
 
-raised-handed : handedBy raisesCommand fresh 0 restart ≡ placed 6 (frame 0x07 []) ∷ []
+raised-handed : handedBy raisesCommand fresh 0 restartBytes ≡ placed 6 (frame 0x07 []) ∷ []
 unfolding handedBy stepOf knownStep knownOf fresh moveOf insideMove tailMove contentMove heldOf verdictOf numberAt little xorFrom partOf
 raised-handed = refl
 
 -- The frame that it hands out is written with its own command.
-raised-written : getD (writeOf (frame 0x07 []) restart .output) 4 0 ≡ 7
+raised-written : getD (writeOf (frame 0x07 []) restartBytes .output) 4 0 ≡ 7
 unfolding writeOf wireOf wireForm contentOf uncheckedOf spelled xorFrom escaped escapeOf isMark over
 raised-written = refl
 
 pub raises-command-refuted : ReadBackOf raisesCommand writeOf → ⊥
 unfolding wireOf wireForm contentOf uncheckedOf spelled xorFrom escaped escapeOf isMark over
 raises-command-refuted promise =
-    let same = promise restart restart-bytes (placed 6 (frame 0x07 [])) (rw raised-handed (List·Memᴰ·head refl)) restart (omega arith) in
+    let same = promise restartBytes restart-are-bytes (placed 6 (frame 0x07 [])) (rw raised-handed (List·Memᴰ·head refl)) restartBytes (omega arith) in
     let sixth : _≡_ {A = ℕ} 7 6 = sym raised-written ∙ ap (λ (o : Out). getD (o .output) 4 0) same in
     omega (arith, sixth)
 
@@ -137,12 +137,12 @@ keepsEscape r b =
 abbrev pub headIsBad : Step
 headIsBad r b = cond (r .pending && eqb b headMark) (answers Dropped (closedOf r)) (stepOf r b)
 
--- Noise that opens a frame and holds a content byte, noise that ends in an escape, and behind each the restart frame.
-abbrev begun : List ℕ
-begun = 0xDB ∷ 0x00 ∷ []
+-- Noise that opens a frame and has a content byte; noise that ends in an escape.
+abbrev openNoise : List ℕ
+openNoise = 0xDB ∷ 0x00 ∷ []
 
-abbrev escaping : List ℕ
-escaping = 0xDB ∷ 0xDC ∷ []
+abbrev escapeNoise : List ℕ
+escapeNoise = 0xDB ∷ 0xDC ∷ []
 
 -- A reader that has to find the frame and loses it does not resynchronise.
 not-resynced : (step : Step) (before rest : List ℕ) → handedBy step fresh 0 (before ++ (headMark ∷ rest)) ≡ []
@@ -150,20 +150,21 @@ not-resynced : (step : Step) (before rest : List ℕ) → handedBy step fresh 0 
     → ResyncOf step → ⊥
 not-resynced step before rest lost found promise = one-more _ (sym lost ∙ promise fresh before rest (fresh-known .size) ∙ found)
 
-abbrev behind : List ℕ
-behind = 0x03 ∷ 0x00 ∷ 0x01 ∷ 0x06 ∷ 0x04 ∷ 0xDE ∷ []
+-- The restart frame behind its head.
+abbrev afterHead : List ℕ
+afterHead = 0x03 ∷ 0x00 ∷ 0x01 ∷ 0x06 ∷ 0x04 ∷ 0xDE ∷ []
 
 pub keeps-count-refuted : ResyncOf keepsCount → ⊥
 unfolding handedBy stepOf knownStep knownOf fresh moveOf insideMove tailMove contentMove heldOf verdictOf numberAt little xorFrom followMove partOf
-keeps-count-refuted = not-resynced keepsCount begun behind refl refl
+keeps-count-refuted = not-resynced keepsCount openNoise afterHead refl refl
 
 pub keeps-escape-refuted : ResyncOf keepsEscape → ⊥
 unfolding handedBy stepOf knownStep knownOf fresh moveOf insideMove tailMove contentMove heldOf verdictOf numberAt little xorFrom followMove mayFollow partOf
-keeps-escape-refuted = not-resynced keepsEscape escaping behind refl refl
+keeps-escape-refuted = not-resynced keepsEscape escapeNoise afterHead refl refl
 
 pub head-is-bad-refuted : ResyncOf headIsBad → ⊥
 unfolding handedBy stepOf knownStep knownOf fresh moveOf insideMove tailMove contentMove heldOf verdictOf numberAt little xorFrom followMove mayFollow partOf
-head-is-bad-refuted = not-resynced headIsBad escaping behind refl refl
+head-is-bad-refuted = not-resynced headIsBad escapeNoise afterHead refl refl
 
 -- ---- W3: a frame at every tail
 
@@ -192,12 +193,12 @@ always-one-frame-refuted promise =
 abbrev pub onePlaceOn : Step
 onePlaceOn r b = cond (r .opened && (eqb b tailMark && isContent (heldOf r))) (told (getD (r .store) 4 0) r) (stepOf r b)
 
-on-handed : handedBy onePlaceOn fresh 0 restart ≡ placed 6 (frame 0x04 []) ∷ []
+on-handed : handedBy onePlaceOn fresh 0 restartBytes ≡ placed 6 (frame 0x04 []) ∷ []
 unfolding handedBy stepOf knownStep knownOf fresh moveOf insideMove tailMove contentMove heldOf verdictOf numberAt little xorFrom isContent partOf
 on-handed = refl
 
 -- No other frame of seven bytes stands there.
-not-there : (before after : List ℕ) → restart ≡ before ++ (wireOf (frame 0x04 []) ++ after)
+not-there : (before after : List ℕ) → restartBytes ≡ before ++ (wireOf (frame 0x04 []) ++ after)
     → 7 ≡ length before + length (wireOf (frame 0x04 [])) → ⊥
 unfolding wireOf wireForm contentOf uncheckedOf spelled xorFrom escaped escapeOf isMark
 not-there [] after e h = let fifth : _≡_ {A = ℕ} 6 4 = ap (λ (l : List ℕ). getD l 4 0) e in omega (arith, fifth)
@@ -205,7 +206,7 @@ not-there (b ∷ before) after e h = omega (arith, h)
 
 pub one-place-on-refuted : EveryStretchOf onePlaceOn → ⊥
 one-place-on-refuted promise =
-    let found = promise restart restart-bytes .sound (placed 6 (frame 0x04 [])) (rw on-handed (List·Memᴰ·head refl)) .1 in
+    let found = promise restartBytes restart-are-bytes .sound (placed 6 (frame 0x04 [])) (rw on-handed (List·Memᴰ·head refl)) .1 in
     not-there (found .before) (found .after) (found .split) (found .ends)
 
 -- ---- W4: the printed row is read

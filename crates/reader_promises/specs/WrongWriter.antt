@@ -46,20 +46,20 @@ abbrev pub leavesPayloadOut : Writer
 leavesPayloadOut f output = writeOf (frame (f .command) []) output
 
 -- The notice of success on the wire.
-abbrev success : List ℕ
-success = 0xDB ∷ 0x04 ∷ 0x00 ∷ 0x01 ∷ 0x86 ∷ 0x00 ∷ 0x83 ∷ 0xDE ∷ []
+abbrev successBytes : List ℕ
+successBytes = 0xDB ∷ 0x04 ∷ 0x00 ∷ 0x01 ∷ 0x86 ∷ 0x00 ∷ 0x83 ∷ 0xDE ∷ []
 
-success-bytes : Bytes success
-success-bytes = (omega arith, (omega arith, (omega arith, (omega arith, (omega arith, (omega arith, (omega arith, (omega arith, tt))))))))
+success-are-bytes : Bytes successBytes
+success-are-bytes = (omega arith, (omega arith, (omega arith, (omega arith, (omega arith, (omega arith, (omega arith, (omega arith, tt))))))))
 
-success-handed : handedBy stepOf fresh 0 success ≡ placed 7 (notice 0) ∷ []
+success-handed : handedBy stepOf fresh 0 successBytes ≡ placed 7 (notice 0) ∷ []
 unfolding handedBy stepOf knownStep knownOf fresh moveOf insideMove tailMove contentMove heldOf verdictOf numberAt little xorFrom partOf
 success-handed = refl
 
 pub leaves-payload-out-refuted : ReadBackOf stepOf leavesPayloadOut → ⊥
 unfolding writeOf wireOf wireForm contentOf uncheckedOf spelled xorFrom escaped escapeOf isMark over
 leaves-payload-out-refuted promise =
-    let same = promise success success-bytes (placed 7 (notice 0)) (rw success-handed (List·Memᴰ·head refl)) success (omega arith) in
+    let same = promise successBytes success-are-bytes (placed 7 (notice 0)) (rw success-handed (List·Memᴰ·head refl)) successBytes (omega arith) in
     let second : _≡_ {A = ℕ} 3 4 = ap (λ (o : Out). getD (o .output) 1 0) same in
     omega (arith, second)
 
@@ -137,22 +137,22 @@ noTail f = headMark ∷ escaped (contentOf f)
 
 -- Length has two bytes, so a payload of 65,536 bytes has the Length of none, and only the tail tells where the first frame ends.
 module _ (zeros : List ℕ) (many : length zeros ≡ 65534) where
-  abbrev wide : Frame
-  wide = frame 0x06 (0x04 ∷ 0x00 ∷ zeros)
+  abbrev wrapped : Frame
+  wrapped = frame 0x06 (0x04 ∷ 0x00 ∷ zeros)
 
   abbrev rest : List ℕ
-  rest = 0x00 ∷ escaped (zeros ++ (xorOf (uncheckedOf wide) ∷ []))
+  rest = 0x00 ∷ escaped (zeros ++ (xorOf (uncheckedOf wrapped) ∷ []))
 
-  wide-form : noTail restartFrame ++ rest ≡ noTail wide
+  wrapped-form : noTail restartFrame ++ rest ≡ noTail wrapped
   unfolding contentOf uncheckedOf spelled xorFrom escaped escapeOf isMark
-  wide-form =
-      let count : 65539 ≡ length (wide .payload) + 3 = omega (arith, many) in
-      let size : 0x03 ∷ 0x00 ∷ [] ≡ spelled 2 (length (wide .payload) + 3) = ap (spelled 2) count in
-      ap (λ (l : List ℕ). headMark ∷ escaped (l ++ (device ∷ 0x06 ∷ wide .payload) ++ (xorOf (uncheckedOf wide) ∷ []))) size
+  wrapped-form =
+      let count : 65539 ≡ length (wrapped .payload) + 3 = omega (arith, many) in
+      let size : 0x03 ∷ 0x00 ∷ [] ≡ spelled 2 (length (wrapped .payload) + 3) = ap (spelled 2) count in
+      ap (λ (l : List ℕ). headMark ∷ escaped (l ++ (device ∷ 0x06 ∷ wrapped .payload) ++ (xorOf (uncheckedOf wrapped) ∷ []))) size
 
   longer-refuted : NoPrefixOf noTail → ⊥
   longer-refuted promise =
-      let counts : _≡_ {A = ℕ} (length rest) 0 = ap length (promise restartFrame wide rest wide-form) in
+      let counts : _≡_ {A = ℕ} (length rest) 0 = ap length (promise restartFrame wrapped rest wrapped-form) in
       omega (arith, counts)
 
 pub no-tail-refuted : NoPrefixOf noTail → ⊥
