@@ -8,6 +8,7 @@ pub mod Seen
 pub mod SeenLaws
 pub mod Feed
 pub mod Resync
+pub mod Dropped
 pub mod Bench
 pub mod Stretches
 pub mod RoundTrip

@@ -1,8 +1,10 @@
 -- What the reader and the writer promise, to be read without the proofs. Each statement is of a step, a wire form or a writer, and then
 -- of ours; of ours it is proved in the file named beside it, and for wrong ones refuted in Wrong.
 use Prim.Native.Nat.{ℕ, _+_, _-_, _≤_}
+use mathlib.Core.Bool.{Bool, not, _&&_, _||_}
 use mathlib.Core.List.{List, [], _∷_, _++_, map, List·Memᴰ}
 use mathlib.Core.Path.{_≡_}
+use lib.Dec.{eqb}
 use lib.ListN.{length, take, drop}
 use Rattle.octets.specs.Octets.{Bytes}
 use Rattle.wire.specs.Escape.{headMark}
@@ -11,13 +13,14 @@ use Rattle.wire.specs.Marks.{Form}
 use Rattle.wire.specs.Write.{writeOf}
 use Rattle.refusals.specs.Written.{Out, written}
 use Rattle.refusals.specs.declared.Written.the-variants.{Refused}
-use Rattle.reader.specs.Reader.{fresh, stepOf}
+use Rattle.reader.specs.Reader.{fresh, knownOf, stepOf, framesOf, droppedIn}
 use Rattle.commands.specs.Commands.{rateFrame, rateReply, parametersCommand, parametersFor, parametersReply, packetReply, restartFrame, notice, accepted}
 use Rattle.kinds.specs.declared.Kind.{Kind}
 use Rattle.kinds.specs.declared.Kind.the-variants.{Navigation}
 use Rattle.reader_promises.specs.Table.{Row, benchTable, printedRow}
 use Rattle.reader_promises.specs.Runs.{Step, Placed, placed, later, handedBy, RisingFrom}
 use Rattle.reader.specs.declared.steps.Reader.{Reader}
+use Rattle.reader.specs.declared.steps.Stepped.{Stepped}
 
 -- A reader as the language makes one: its store has 1,035 bytes. Count and flags are any.
 abbrev pub Made : Reader → Type 0
@@ -92,6 +95,18 @@ EveryStretchOf step = (bytes : List ℕ) → Bytes bytes → Stretches step byte
 
 abbrev pub EveryStretch : Type 0
 EveryStretch = EveryStretchOf stepOf
+
+-- Frames that are not handed out (Dropped.antt). A step of a reader that was opened or not, by a head or another byte, says dropped
+-- exactly where a frame was open, is over with this byte, by the head or closed, and none is handed out.
+abbrev pub ToldRight : Bool → Bool → Stepped → Type 0
+ToldRight opened head s =
+    droppedIn (s .heard) ≡ (opened && ((head || not (s .reader .opened)) && eqb (length (framesOf s)) 0))
+
+abbrev pub DroppedExactlyOf : Step → Type 0
+DroppedExactlyOf step = (r : Reader) (b : ℕ) → ToldRight (knownOf r .opened) (eqb b headMark) (step r b)
+
+abbrev pub DroppedExactly : Type 0
+DroppedExactly = DroppedExactlyOf stepOf
 
 -- W4, the bench table (Bench.antt): each row's frame is written as the row's bytes, and those are read as the frame.
 abbrev pub BenchTableOf : Step → Form → Type 0

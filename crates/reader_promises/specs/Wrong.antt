@@ -1,6 +1,6 @@
 -- Wrong readers, each a small variation of our step, and a promise that it breaks.
 use Prim.Native.Nat.{ℕ, _+_, _-_, _≤_}
-use mathlib.Core.Bool.{true, false, cond, _&&_}
+use mathlib.Core.Bool.{true, false, cond, _&&_, false≢true, true≢false}
 use mathlib.Core.List.{List, [], _∷_, _++_, map, List·Memᴰ, List·Memᴰ·head, List·Memᴰ·tail, List·Memᴰ·not-nil}
 use mathlib.Core.Path.{_≡_, refl, sym, ap, _∙_}
 use native.Mathlib.Omega.{arith}
@@ -19,7 +19,7 @@ use Rattle.reader.specs.declared.steps.Heard.the-variants.{Nothing, Frame as Wh
 use Rattle.reader.specs.declared.steps.Reader.{Reader}
 use Rattle.reader.specs.declared.steps.Stepped.{Stepped}
 use Rattle.reader_promises.specs.Runs.{Step, Placed, placed, later, handedBy}
-use Rattle.reader_promises.specs.Promises.{RoundTripOf, ReadBackOf, ResyncOf, EveryStretchOf, BenchTableOf, PrintedRowOf, StandsIn}
+use Rattle.reader_promises.specs.Promises.{RoundTripOf, ReadBackOf, ResyncOf, EveryStretchOf, DroppedExactlyOf, BenchTableOf, PrintedRowOf, StandsIn}
 use Rattle.reader_promises.specs.SeenLaws.{fresh-known}
 use Rattle.reader_promises.specs.Table.{Row, benchTable}
 
@@ -208,6 +208,38 @@ pub one-place-on-refuted : EveryStretchOf onePlaceOn → ⊥
 one-place-on-refuted promise =
     let found = promise restartBytes restart-are-bytes .sound (placed 6 (frame 0x04 [])) (rw on-handed (List·Memᴰ·head refl)) .1 in
     not-there (found .before) (found .after) (found .split) (found .ends)
+
+-- ---- dropped, where it is not said or said too often
+
+-- Our step, but nobody is told of a frame that is dropped.
+abbrev hushed : Heard → Heard
+hushed Nothing = Nothing
+hushed (Whole command n) = Whole command n
+hushed Dropped = Nothing
+
+abbrev pub dropsInSilence : Step
+dropsInSilence r b = answers (hushed (stepOf r b .heard)) (stepOf r b .reader)
+
+-- Our step, but every byte that brings nothing is told as dropped.
+abbrev loud : Heard → Heard
+loud Nothing = Dropped
+loud (Whole command n) = Whole command n
+loud Dropped = Dropped
+
+abbrev pub noiseIsDropped : Step
+noiseIsDropped r b = answers (loud (stepOf r b .heard)) (stepOf r b .reader)
+
+-- A frame just begun, and its tail; a fresh reader, and a byte of noise.
+abbrev justBegun : Reader
+justBegun = record { store = []; count = 0; opened = true; pending = false }
+
+pub drops-in-silence-refuted : DroppedExactlyOf dropsInSilence → ⊥
+unfolding stepOf knownStep knownOf moveOf insideMove tailMove heldOf verdictOf
+drops-in-silence-refuted promise = false≢true (promise justBegun tailMark)
+
+pub noise-is-dropped-refuted : DroppedExactlyOf noiseIsDropped → ⊥
+unfolding stepOf knownStep knownOf fresh moveOf
+noise-is-dropped-refuted promise = true≢false (promise fresh 0x00)
 
 -- ---- W4: the printed row is read
 
