@@ -14,7 +14,8 @@ use Rattle.wire.specs.Write.{writeOf}
 use Rattle.refusals.specs.Written.{Out, written}
 use Rattle.refusals.specs.declared.Written.the-variants.{Refused}
 use Rattle.reader.specs.Reader.{fresh, knownOf, stepOf, framesOf, droppedIn}
-use Rattle.commands.specs.Commands.{rateFrame, rateReply, parametersCommand, parametersFor, parametersReply, packetReply, restartFrame, notice, accepted}
+use Rattle.commands.specs.Commands.{rateFrame, rateReply, parametersCommand, parametersFor, parametersReply}
+use Rattle.commands.specs.Commands.{packetReply, restartFrame, notice, accepted}
 use Rattle.kinds.specs.declared.Kind.{Kind}
 use Rattle.kinds.specs.declared.Kind.the-variants.{Navigation}
 use Rattle.reader_promises.specs.Table.{Row, benchTable, printedRow}

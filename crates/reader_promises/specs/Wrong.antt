@@ -19,7 +19,8 @@ use Rattle.reader.specs.declared.steps.Heard.the-variants.{Nothing, Frame as Wh
 use Rattle.reader.specs.declared.steps.Reader.{Reader}
 use Rattle.reader.specs.declared.steps.Stepped.{Stepped}
 use Rattle.reader_promises.specs.Runs.{Step, Placed, placed, later, handedBy}
-use Rattle.reader_promises.specs.Promises.{RoundTripOf, ReadBackOf, ResyncOf, EveryStretchOf, DroppedExactlyOf, BenchTableOf, PrintedRowOf, StandsIn}
+use Rattle.reader_promises.specs.Promises.{RoundTripOf, ReadBackOf, ResyncOf, EveryStretchOf, DroppedExactlyOf, BenchTableOf}
+use Rattle.reader_promises.specs.Promises.{PrintedRowOf, StandsIn}
 use Rattle.reader_promises.specs.SeenLaws.{fresh-known}
 use Rattle.reader_promises.specs.Table.{Row, benchTable}
 
@@ -155,15 +156,18 @@ abbrev afterHead : List ℕ
 afterHead = 0x03 ∷ 0x00 ∷ 0x01 ∷ 0x06 ∷ 0x04 ∷ 0xDE ∷ []
 
 pub keeps-count-refuted : ResyncOf keepsCount → ⊥
-unfolding handedBy stepOf knownStep knownOf fresh moveOf insideMove tailMove contentMove heldOf verdictOf numberAt little xorFrom followMove partOf
+unfolding handedBy stepOf knownStep knownOf fresh moveOf insideMove tailMove contentMove heldOf verdictOf numberAt little xorFrom
+    followMove partOf
 keeps-count-refuted = not-resynced keepsCount openNoise afterHead refl refl
 
 pub keeps-escape-refuted : ResyncOf keepsEscape → ⊥
-unfolding handedBy stepOf knownStep knownOf fresh moveOf insideMove tailMove contentMove heldOf verdictOf numberAt little xorFrom followMove mayFollow partOf
+unfolding handedBy stepOf knownStep knownOf fresh moveOf insideMove tailMove contentMove heldOf verdictOf numberAt little xorFrom
+    followMove mayFollow partOf
 keeps-escape-refuted = not-resynced keepsEscape escapeNoise afterHead refl refl
 
 pub head-is-bad-refuted : ResyncOf headIsBad → ⊥
-unfolding handedBy stepOf knownStep knownOf fresh moveOf insideMove tailMove contentMove heldOf verdictOf numberAt little xorFrom followMove mayFollow partOf
+unfolding handedBy stepOf knownStep knownOf fresh moveOf insideMove tailMove contentMove heldOf verdictOf numberAt little xorFrom
+    followMove mayFollow partOf
 head-is-bad-refuted = not-resynced headIsBad escapeNoise afterHead refl refl
 
 -- ---- W3: a frame at every tail
@@ -194,7 +198,8 @@ abbrev pub onePlaceOn : Step
 onePlaceOn r b = cond (r .opened && (eqb b tailMark && isContent (heldOf r))) (told (getD (r .store) 4 0) r) (stepOf r b)
 
 on-handed : handedBy onePlaceOn fresh 0 restartBytes ≡ placed 6 (frame 0x04 []) ∷ []
-unfolding handedBy stepOf knownStep knownOf fresh moveOf insideMove tailMove contentMove heldOf verdictOf numberAt little xorFrom isContent partOf
+unfolding handedBy stepOf knownStep knownOf fresh moveOf insideMove tailMove contentMove heldOf verdictOf numberAt little xorFrom
+    isContent partOf
 on-handed = refl
 
 -- No other frame of seven bytes stands there.
