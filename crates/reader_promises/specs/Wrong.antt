@@ -8,7 +8,8 @@ use lib.Dec.{eqb}
 use lib.ListN.{length, getD, take, replicate, length-replicate}
 use Rattle.octets.specs.Octets.{Bytes, little, spelled, numberAt, xorFrom, xorOf, partOf, over}
 use Rattle.wire.specs.Escape.{headMark, tailMark, isMark, secondOf, mayFollow, escapeOf, escaped}
-use Rattle.wire.specs.Frame.{Frame, frame, Acceptable, longestContent, shortestContent, uncheckedOf, contentOf, wireForm, wireOf, verdictOf, isContent}
+use Rattle.wire.specs.Frame.{Frame, frame, Acceptable, longestContent, shortestContent}
+use Rattle.wire.specs.Frame.{uncheckedOf, contentOf, wireForm, wireOf, verdictOf, isContent}
 use Rattle.wire.specs.Write.{writeOf}
 use Rattle.refusals.specs.Written.{Out}
 use Rattle.commands.specs.Commands.{restartFrame}
@@ -66,7 +67,8 @@ hands-out-nothing-round-trip-refuted promise =
 
 pub hands-out-nothing-stretches-refuted : EveryStretchOf handsOutNothing → ⊥
 hands-out-nothing-stretches-refuted promise =
-    List·Memᴰ·not-nil (rw nothing-handed at (promise restartBytes restart-are-bytes .complete restartFrame 6 restart-acceptable restart-stands))
+    let there = promise restartBytes restart-are-bytes .complete restartFrame 6 restart-acceptable restart-stands in
+    List·Memᴰ·not-nil (rw nothing-handed at there)
 
 pub hands-out-nothing-table-refuted : BenchTableOf handsOutNothing wireOf → ⊥
 hands-out-nothing-table-refuted promise =
@@ -118,7 +120,8 @@ raised-written = refl
 pub raises-command-refuted : ReadBackOf raisesCommand writeOf → ⊥
 unfolding wireOf wireForm contentOf uncheckedOf spelled xorFrom escaped escapeOf isMark over
 raises-command-refuted promise =
-    let same = promise restartBytes restart-are-bytes (placed 6 (frame 0x07 [])) (rw raised-handed (List·Memᴰ·head refl)) restartBytes (omega arith) in
+    let there : List·Memᴰ (placed 6 (frame 0x07 [])) (handedBy raisesCommand fresh 0 restartBytes) = rw raised-handed (List·Memᴰ·head refl) in
+    let same = promise restartBytes restart-are-bytes (placed 6 (frame 0x07 [])) there restartBytes (omega arith) in
     let sixth : _≡_ {A = ℕ} 7 6 = sym raised-written ∙ ap (λ (o : Out). getD (o .output) 4 0) same in
     omega (arith, sixth)
 

@@ -1,7 +1,7 @@
 -- Wrong wire forms, a wrong writer and a wrong builder of 0x02, each a small variation of ours, and a promise that it breaks.
 use Prim.Native.Nat.{ℕ, _+_}
 use mathlib.Core.Bool.{cond}
-use mathlib.Core.List.{List, [], _∷_, _++_, List·Memᴰ·head, List·Memᴰ·tail}
+use mathlib.Core.List.{List, [], _∷_, _++_, List·Memᴰ, List·Memᴰ·head, List·Memᴰ·tail}
 use mathlib.Core.Path.{_≡_, refl, sym, ap, _∙_}
 use native.Mathlib.Omega.{arith}
 use lib.Dec.{eqb, ltb}
@@ -50,7 +50,8 @@ abbrev successBytes : List ℕ
 successBytes = 0xDB ∷ 0x04 ∷ 0x00 ∷ 0x01 ∷ 0x86 ∷ 0x00 ∷ 0x83 ∷ 0xDE ∷ []
 
 success-are-bytes : Bytes successBytes
-success-are-bytes = (omega arith, (omega arith, (omega arith, (omega arith, (omega arith, (omega arith, (omega arith, (omega arith, tt))))))))
+success-are-bytes =
+    (omega arith, (omega arith, (omega arith, (omega arith, (omega arith, (omega arith, (omega arith, (omega arith, tt))))))))
 
 success-handed : handedBy stepOf fresh 0 successBytes ≡ placed 7 (notice 0) ∷ []
 unfolding handedBy stepOf knownStep knownOf fresh moveOf insideMove tailMove contentMove heldOf verdictOf numberAt little xorFrom partOf
@@ -59,7 +60,8 @@ success-handed = refl
 pub leaves-payload-out-refuted : ReadBackOf stepOf leavesPayloadOut → ⊥
 unfolding writeOf wireOf wireForm contentOf uncheckedOf spelled xorFrom escaped escapeOf isMark over
 leaves-payload-out-refuted promise =
-    let same = promise successBytes success-are-bytes (placed 7 (notice 0)) (rw success-handed (List·Memᴰ·head refl)) successBytes (omega arith) in
+    let there : List·Memᴰ (placed 7 (notice 0)) (handedBy stepOf fresh 0 successBytes) = rw success-handed (List·Memᴰ·head refl) in
+    let same = promise successBytes success-are-bytes (placed 7 (notice 0)) there successBytes (omega arith) in
     let second : _≡_ {A = ℕ} 3 4 = ap (λ (o : Out). getD (o .output) 1 0) same in
     omega (arith, second)
 
