@@ -1,12 +1,13 @@
 -- Wrong readers, each a small variation of our step, and a promise that it breaks.
 use Prim.Native.Nat.{ℕ, _+_, _-_, _≤_}
-use mathlib.Core.Bool.{true, false, cond, _&&_, false≢true, true≢false}
+use mathlib.Core.Bool.{Bool, true, false, cond, not, _&&_, false≢true, true≢false}
 use mathlib.Core.List.{List, [], _∷_, _++_, map, List·Memᴰ, List·Memᴰ·head, List·Memᴰ·tail, List·Memᴰ·not-nil}
 use mathlib.Core.Path.{_≡_, refl, sym, ap, _∙_}
 use native.Mathlib.Omega.{arith}
 use lib.Dec.{eqb}
 use lib.ListN.{length, getD, take, replicate, length-replicate}
 use Rattle.octets.specs.Octets.{Bytes, little, spelled, numberAt, xorFrom, xorOf, partOf, over}
+use Rattle.octets.specs.Lists.{bytes-snoc}
 use Rattle.wire.specs.Escape.{headMark, tailMark, isMark, secondOf, mayFollow, escapeOf, escaped}
 use Rattle.wire.specs.Frame.{Frame, frame, Acceptable, longestContent, shortestContent}
 use Rattle.wire.specs.Frame.{uncheckedOf, contentOf, wireForm, wireOf, verdictOf, isContent}
@@ -46,16 +47,20 @@ restart-acceptable = record { command-byte = omega arith; payload-bytes = tt; pa
 one-more : (p : Placed) → _≡_ {A = List Placed} [] (p ∷ []) → ⊥
 one-more p e = let counts : _≡_ {A = ℕ} 0 1 = ap length e in omega (arith, counts)
 
+-- Our step, but with something else said in place of what it hears.
+abbrev saying : (Heard → Heard) → Step
+saying other r b = answers (other (stepOf r b .heard)) (stepOf r b .reader)
+
 -- ---- W1, W3, W4: hands out nothing
 
--- Our step, but each frame is dropped.
+-- Each frame is said to be dropped.
 abbrev unsaid : Heard → Heard
 unsaid Nothing = Nothing
 unsaid (Whole command n) = Dropped
 unsaid Dropped = Dropped
 
 abbrev pub handsOutNothing : Step
-handsOutNothing r b = answers (unsaid (stepOf r b .heard)) (stepOf r b .reader)
+handsOutNothing = saying unsaid
 
 nothing-handed : handedBy handsOutNothing fresh 0 restartBytes ≡ []
 unfolding handedBy stepOf knownStep knownOf fresh moveOf insideMove tailMove contentMove heldOf verdictOf numberAt little xorFrom
@@ -99,14 +104,14 @@ ends-early-refuted promise =
 
 -- ---- W1, the way back: hands out another frame
 
--- Our step, but the command of a frame is told one too high.
+-- The command of a frame is told one too high.
 abbrev raised : Heard → Heard
 raised Nothing = Nothing
 raised (Whole command n) = Whole (command + 1) n
 raised Dropped = Dropped
 
 abbrev pub raisesCommand : Step
-raisesCommand r b = answers (raised (stepOf r b .heard)) (stepOf r b .reader)
+raisesCommand = saying raised
 
 raised-handed : handedBy raisesCommand fresh 0 restartBytes ≡ placed 6 (frame 0x07 []) ∷ []
 unfolding handedBy stepOf knownStep knownOf fresh moveOf insideMove tailMove contentMove heldOf verdictOf numberAt little xorFrom partOf
@@ -122,8 +127,8 @@ unfolding wireOf wireForm contentOf uncheckedOf spelled xorFrom escaped escapeOf
 raises-command-refuted promise =
     let there : List·Memᴰ (placed 6 (frame 0x07 [])) (handedBy raisesCommand fresh 0 restartBytes) = rw raised-handed (List·Memᴰ·head refl) in
     let same = promise restartBytes restart-are-bytes (placed 6 (frame 0x07 [])) there restartBytes (omega arith) in
-    let sixth : _≡_ {A = ℕ} 7 6 = sym raised-written ∙ ap (λ (o : Out). getD (o .output) 4 0) same in
-    omega (arith, sixth)
+    let fifth : _≡_ {A = ℕ} 7 6 = sym raised-written ∙ ap (λ (o : Out). getD (o .output) 4 0) same in
+    omega (arith, fifth)
 
 -- ---- W2: forgets that a head begins anew
 
@@ -175,10 +180,11 @@ head-is-bad-refuted = not-resynced headIsBad escapeNoise afterHead refl refl
 
 -- ---- W3: a frame at every tail
 
--- Our step, but every tail inside a frame hands out a frame.
+-- A frame with this command is told, whatever the content so far is, and closed.
 abbrev told : ℕ → Reader → Stepped
 told command r = answers (Whole command (r .count - shortestContent)) (closedOf r)
 
+-- Our step, but every tail inside a frame hands out a frame.
 abbrev pub alwaysOneFrame : Step
 alwaysOneFrame r b = cond (r .opened && eqb b tailMark) (told (getD (r .store) 3 0) r) (stepOf r b)
 
@@ -194,48 +200,76 @@ always-one-frame-refuted promise =
     (rw always-handed (List·Memᴰ·head refl)) in
     omega (arith, found .1 .ends)
 
--- ---- W3: a place one on
+-- ---- W3: the command, or the frame, a place one on
 
--- Our step, but the command is told from one place on.
-abbrev pub onePlaceOn : Step
-onePlaceOn r b = cond (r .opened && (eqb b tailMark && isContent (heldOf r))) (told (getD (r .store) 4 0) r) (stepOf r b)
+-- The tail ends good content.
+abbrev ends : Reader → ℕ → Bool
+ends r b = r .opened && (eqb b tailMark && isContent (heldOf r))
 
-on-handed : handedBy onePlaceOn fresh 0 restartBytes ≡ placed 6 (frame 0x04 []) ∷ []
+-- Our step, but the command is told from one place on in the store.
+abbrev pub commandOneOn : Step
+commandOneOn r b = cond (ends r b) (told (getD (r .store) 4 0) r) (stepOf r b)
+
+-- Our step, but each frame is told one place on, with the byte behind its tail. (Until then an escape pending outside a frame stands for it.)
+abbrev pub placeOneOn : Step
+placeOneOn r b =
+    cond (not (r .opened) && r .pending) (told (getD (r .store) 3 0) r)
+    (cond (ends r b) (answers Nothing (record { store = r .store; count = r .count; opened = false; pending = true })) (stepOf r b))
+
+command-handed : handedBy commandOneOn fresh 0 restartBytes ≡ placed 6 (frame 0x04 []) ∷ []
 unfolding handedBy stepOf knownStep knownOf fresh moveOf insideMove tailMove contentMove heldOf verdictOf numberAt little xorFrom
     isContent partOf
-on-handed = refl
+command-handed = refl
 
--- No other frame of seven bytes stands there.
-not-there : (before after : List ℕ) → restartBytes ≡ before ++ (wireOf (frame 0x04 []) ++ after)
+place-handed : handedBy placeOneOn fresh 0 (restartBytes ++ (0x00 ∷ [])) ≡ placed 7 restartFrame ∷ []
+unfolding handedBy stepOf knownStep knownOf fresh moveOf insideMove tailMove contentMove heldOf verdictOf numberAt little xorFrom
+    isContent partOf
+place-handed = refl
+
+-- Command 4 does not stand in the restart frame's bytes, and the restart frame does not stand a place further on.
+not-command : (before after : List ℕ) → restartBytes ≡ before ++ (wireOf (frame 0x04 []) ++ after)
     → 7 ≡ length before + length (wireOf (frame 0x04 [])) → ⊥
 unfolding wireOf wireForm contentOf uncheckedOf spelled xorFrom escaped escapeOf isMark
-not-there [] after e h = let fifth : _≡_ {A = ℕ} 6 4 = ap (λ (l : List ℕ). getD l 4 0) e in omega (arith, fifth)
-not-there (b ∷ before) after e h = omega (arith, h)
+not-command [] after e h = let fifth : _≡_ {A = ℕ} 6 4 = ap (λ (l : List ℕ). getD l 4 0) e in omega (arith, fifth)
+not-command (b ∷ before) after e h = omega (arith, h)
 
-pub one-place-on-refuted : EveryStretchOf onePlaceOn → ⊥
-one-place-on-refuted promise =
-    let found = promise restartBytes restart-are-bytes .sound (placed 6 (frame 0x04 [])) (rw on-handed (List·Memᴰ·head refl)) .1 in
-    not-there (found .before) (found .after) (found .split) (found .ends)
+not-further : (before after : List ℕ) → restartBytes ++ (0x00 ∷ []) ≡ before ++ (restartBytes ++ after)
+    → 8 ≡ length before + length restartBytes → ⊥
+not-further [] after e h = omega (arith, h)
+not-further (b ∷ []) after e h = let second : _≡_ {A = ℕ} 0x03 0xDB = ap (λ (l : List ℕ). getD l 1 0) e in omega (arith, second)
+not-further (b ∷ c ∷ before) after e h = omega (arith, h)
+
+pub command-one-on-refuted : EveryStretchOf commandOneOn → ⊥
+command-one-on-refuted promise =
+    let found = promise restartBytes restart-are-bytes .sound (placed 6 (frame 0x04 [])) (rw command-handed (List·Memᴰ·head refl)) .1 in
+    not-command (found .before) (found .after) (found .split) (found .ends)
+
+pub place-one-on-refuted : EveryStretchOf placeOneOn → ⊥
+place-one-on-refuted promise =
+    let bytes = bytes-snoc restartBytes 0x00 restart-are-bytes (omega arith) in
+    let there = promise (restartBytes ++ (0x00 ∷ [])) bytes .sound (placed 7 restartFrame) (rw place-handed (List·Memᴰ·head refl)) .1 in
+    let found = rw restart-form at there in
+    not-further (found .before) (found .after) (found .split) (found .ends)
 
 -- ---- dropped, where it is not said or said too often
 
--- Our step, but nobody is told of a frame that is dropped.
+-- Nobody is told of a frame that is dropped.
 abbrev hushed : Heard → Heard
 hushed Nothing = Nothing
 hushed (Whole command n) = Whole command n
 hushed Dropped = Nothing
 
 abbrev pub dropsInSilence : Step
-dropsInSilence r b = answers (hushed (stepOf r b .heard)) (stepOf r b .reader)
+dropsInSilence = saying hushed
 
--- Our step, but every byte that brings nothing is told as dropped.
+-- Every byte that brings nothing is said to be dropped.
 abbrev loud : Heard → Heard
 loud Nothing = Dropped
 loud (Whole command n) = Whole command n
 loud Dropped = Dropped
 
 abbrev pub noiseIsDropped : Step
-noiseIsDropped r b = answers (loud (stepOf r b .heard)) (stepOf r b .reader)
+noiseIsDropped = saying loud
 
 -- A frame just begun, and its tail; a fresh reader, and a byte of noise.
 abbrev justBegun : Reader
