@@ -17,7 +17,7 @@ use Rattle.flat.specs.WordsLaws.{length-spelled-all}
 use Rattle.flat.specs.Calls.{callsBy}
 use Rattle.flat.specs.Found.{ReadAt, read-all}
 use Rattle.reader.specs.Reader.{stepOf, payloadIn}
-use Rattle.reader.specs.SeenLaws.{fresh-known, step-known}
+use Rattle.reader_promises.specs.SeenLaws.{fresh-known, step-known}
 use Rattle.reader.specs.declared.steps.Reader.{Reader}
 use Rattle.reader.specs.declared.steps.Stepped.{Stepped}
 use Rattle.kept_reader.specs.Kept.{readerBytes, storePlace, payloadPlace, flag, bytesOf, stands, readerIn}

@@ -14,8 +14,8 @@ use Rattle.kinds.specs.declared.Kind.{Kind}
 use Rattle.pieces.specs.Pieces.{countOf}
 use Rattle.pieces.specs.PiecesLaws.{count-some}
 use Rattle.wire.specs.Frame.{Frame, longestPayload, wireOf}
-use Rattle.reader.specs.Seen.{seenHanded, sightOf}
-use Rattle.reader.specs.SeenLaws.{fresh-handed}
+use Rattle.reader_promises.specs.Seen.{seenHanded, sightOf}
+use Rattle.reader_promises.specs.SeenLaws.{fresh-handed}
 use Rattle.commands.specs.Commands.{startText}
 use Rattle.commands.specs.Commands.{rateFrame, parametersFrame, packetFrame, restartFrame}
 use Rattle.commands.specs.CommandsLaws.{length-parameters}

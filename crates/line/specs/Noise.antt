@@ -14,10 +14,10 @@ use Rattle.wire.specs.Frame.{Frame, frame, longestPayload, wireOf}
 use Rattle.commands.specs.Commands.{parametersFrame, packetFrame}
 use Rattle.reader.specs.Reader.{framesIn, framesOf, payloadIn}
 use Rattle.reader.specs.Reader as reader
-use Rattle.reader.specs.Runs.{Placed, placed, handedFrom}
-use Rattle.reader.specs.Promises.{Any}
-use Rattle.reader.specs.SeenLaws.{step-size}
-use Rattle.reader.specs.RoundTrip.{round-trip}
+use Rattle.reader_promises.specs.Runs.{Placed, placed, handedFrom, handedBy}
+use Rattle.reader_promises.specs.Promises.{Made}
+use Rattle.reader_promises.specs.SeenLaws.{step-size}
+use Rattle.reader_promises.specs.RoundTrip.{round-trip}
 use Rattle.reader.specs.declared.steps.Reader.{Reader}
 use Rattle.reader.specs.declared.steps.Heard.{Heard}
 use Rattle.reader.specs.declared.steps.Heard.the-variants.{Nothing, Frame as Whole, Dropped}
@@ -81,7 +81,7 @@ byte-hands Dropped r s flash reply f e = absurd (not-none (sym e))
 record FrameFed (b : Board) (flash : List ℕ) (xs : List Fed) (f : Frame) : Type 0 where
   before : List BoardLeft
   reader : Reader
-  any : Any reader
+  made : Made reader
   offer : Offer
   frames : Frames (f .command) (f .payload) offer
   split : fedOf b flash xs ≡ before ++ (offered reader (b .session) flash offer ∷ [])
@@ -113,7 +113,7 @@ unfolding fedOf boardAfter
 frame-later b flash x xs f r board-is flash-is h = record {
   before = hearsFed b flash x ∷ h .before;
   reader = h .reader;
-  any = h .any;
+  made = h .made;
   offer = h .offer;
   frames = h .frames;
   split = ap (λ (ls : List BoardLeft). hearsFed b flash x ∷ ls)
@@ -127,13 +127,13 @@ frame-later b flash x xs f r board-is flash-is h = record {
 }
 
 -- A byte that hands out the frame may stand alone.
-frame-now : (b : Board) (flash : List ℕ) (x : Fed) (f : Frame) (r : Reader) → Any r → Roomy (x ∷ [])
+frame-now : (b : Board) (flash : List ℕ) (x : Fed) (f : Frame) (r : Reader) → Made r → Roomy (x ∷ [])
     → Offers f (x .reply) r (b .session) flash (hearsFed b flash x) → FrameFed b flash (x ∷ []) f
 unfolding fedOf boardAfter
 frame-now b flash x f r a room h = record {
   before = [];
   reader = r;
-  any = a;
+  made = a;
   offer = h .offer;
   frames = record { count = h .count; event-is = h .event-is; payload-is = h .payload-is; room = rw (h .lends) (room .0) };
   split = ap (λ (l : BoardLeft). l ∷ []) (h .leaves);
@@ -141,9 +141,9 @@ frame-now b flash x f r a room h = record {
 }
 
 -- Bytes in which the reader hands out a frame at the last.
-fed-handed : (xs : List Fed) (b : Board) (flash : List ℕ) (k : ℕ) (f : Frame) → Any (b .reader) → Roomy xs
+fed-handed : (xs : List Fed) (b : Board) (flash : List ℕ) (k : ℕ) (f : Frame) → Made (b .reader) → Roomy xs
     → handedFrom (b .reader) k (bytesOf xs) ≡ placed (k + length xs - 1) f ∷ [] → FrameFed b flash xs f
-unfolding handedFrom boardHears
+unfolding handedBy boardHears
 fed-handed [] b flash k f a room e = absurd (not-none (sym e))
 fed-handed (x ∷ []) b flash k f a room e =
     let step = reader.stepOf (b .reader) (x .byte) in
@@ -157,7 +157,7 @@ fed-handed (x ∷ y ∷ ys) b flash k f a room e =
     (fed-handed (y ∷ ys) (boardWith (step .reader) (b .session)) flash (suc k) f (step-size (b .reader) a (x .byte)) (room .1) (yet .1))
 
 -- The wire form of a frame brings any board that frame.
-fed-frame : (b : Board) (flash : List ℕ) (xs : List Fed) (f : Frame) → Any (b .reader) → length (f .payload) ≤ longestPayload
+fed-frame : (b : Board) (flash : List ℕ) (xs : List Fed) (f : Frame) → Made (b .reader) → length (f .payload) ≤ longestPayload
     → bytesOf xs ≡ wireOf f → Roomy xs → FrameFed b flash xs f
 fed-frame b flash xs f a short e room =
     let long : length (wireOf f) ≡ 0 + length xs = omega (arith, ap length e, length-map xs (λ (x : Fed). x .byte)) in
@@ -263,7 +263,7 @@ fed-more b flash ys zs f g fs h m =
 -- Boards with a whole reader that are fed the wire forms of some frames.
 abbrev FedBy : List Frame → Type 0
 FedBy fs =
-    (b : Board) (flash : List ℕ) (xs : List Fed) → Any (b .reader) → bytesOf xs ≡ wiresOf fs → Roomy xs → FramesFed b flash xs fs
+    (b : Board) (flash : List ℕ) (xs : List Fed) → Made (b .reader) → bytesOf xs ≡ wiresOf fs → Roomy xs → FramesFed b flash xs fs
 
 -- A frame before others, from any board.
 fed-first : (f g : Frame) (fs : List Frame) → length (f .payload) ≤ longestPayload → FedBy (g ∷ fs) → FedBy (f ∷ g ∷ fs)
@@ -273,7 +273,7 @@ fed-first f g fs short rest b flash xs a e room =
     let rooms = roomy-parts (p .front) (p .back) (rw (p .split) at room) in
     let h = fed-frame b flash (p .front) f a short (p .front-is) (rooms .0) in
     let now = boardAfter b flash (p .front) in
-    let again : Any (now .board .reader) = rw (h .after) (h .any) in
+    let again : Made (now .board .reader) = rw (h .after) (h .made) in
     rw (p .split)
     (fed-more b flash (p .front) (p .back) f g fs h (rest (now .board) (now .flash) (p .back) again (p .back-is) (rooms .1)))
 
@@ -313,17 +313,17 @@ reader-kept (Whole command n) r s flash reply = refl
 reader-kept Dropped r s flash reply = refl
 
 -- A byte keeps the store's size.
-hears-any : (b : Board) (flash : List ℕ) (x : Fed) → Any (b .reader) → Any (hearsFed b flash x .board .reader)
+hears-made : (b : Board) (flash : List ℕ) (x : Fed) → Made (b .reader) → Made (hearsFed b flash x .board .reader)
 unfolding boardHears
-hears-any b flash x a =
+hears-made b flash x a =
     let step = reader.stepOf (b .reader) (x .byte) in
     rw (reader-kept (step .heard) (step .reader) (b .session) flash (x .reply)) (step-size (b .reader) a (x .byte))
 
 -- So do any bytes.
-any-after : (xs : List Fed) (b : Board) (flash : List ℕ) → Any (b .reader) → Any (boardAfter b flash xs .board .reader)
+made-after : (xs : List Fed) (b : Board) (flash : List ℕ) → Made (b .reader) → Made (boardAfter b flash xs .board .reader)
 unfolding boardAfter
-any-after [] b flash a = a
-any-after (x ∷ xs) b flash a = any-after xs (hearsFed b flash x .board) (hearsFed b flash x .flash) (hears-any b flash x a)
+made-after [] b flash a = a
+made-after (x ∷ xs) b flash a = made-after xs (hearsFed b flash x .board) (hearsFed b flash x .flash) (hears-made b flash x a)
 
 -- The board ends as the session does.
 board-succeeds : (b : Board) (flash : List ℕ) (xs : List Fed) (fs : List Frame) (total : ℕ) (goal : List ℕ) (h : FramesFed b flash xs fs)
@@ -340,7 +340,7 @@ board-succeeds b flash xs fs total goal h e =
     }
 
 -- A board with a whole reader and an open session.
-transfer-succeeds : (b : Board) (flash : List ℕ) → Any (b .reader) → takes (b .session) ≡ true → length flash ≡ b .session .flash
+transfer-succeeds : (b : Board) (flash : List ℕ) → Made (b .reader) → takes (b .session) ≡ true → length flash ≡ b .session .flash
     → (kind : Kind) (image : List ℕ) (size : ℕ) → Fits kind image size flash
     → (xs : List Fed) → bytesOf xs ≡ cleanBytes kind image size → Roomy xs
     → BoardSucceeds (fedOf b flash xs) (countOf (length image) size) (laid flash (baseOf kind) image)
@@ -357,4 +357,4 @@ transfer-succeeds b flash a t long kind image size fits xs e room =
 pub noise-then-transfer : NoiseThenTransfer
 noise-then-transfer b flash a noise t long kind image size fits xs e room =
     let now = boardAfter b flash noise in
-    transfer-succeeds (now .board) (now .flash) (any-after noise b flash a) t long kind image size fits xs e room
+    transfer-succeeds (now .board) (now .flash) (made-after noise b flash a) t long kind image size fits xs e room

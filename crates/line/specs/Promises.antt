@@ -11,7 +11,7 @@ use Rattle.kinds.specs.declared.Kind.{Kind}
 use Rattle.pieces.specs.Pieces.{countOf}
 use Rattle.wire.specs.Frame.{Frame}
 use Rattle.commands.specs.Commands.{accepted, largestPacket, largestTotal, notice, packetReply}
-use Rattle.reader.specs.Promises.{Any}
+use Rattle.reader_promises.specs.Promises.{Made}
 use Rattle.host_model.specs.Answers.{pieceSize}
 use Rattle.host_model.specs.declared.plan.Rate.{Rate}
 use Rattle.host_model.specs.declared.plan.Stage.the-variants.{Restarting}
@@ -140,7 +140,7 @@ pub record BoardSucceeds (ls : List BoardLeft) (total : ℕ) (flash : List ℕ) 
 abbrev pub NoiseThenTransfer : Type 0
 NoiseThenTransfer =
     -- for a board as the language makes one, its reader and its session with any numbers, over any flash,
-    (b : Board) (flash : List ℕ) → Any (b .reader)
+    (b : Board) (flash : List ℕ) → Made (b .reader)
     -- after any bytes, with any reply buffers lent,
     → (noise : List Fed)
     -- if the session still takes events, and the flash has the length of its opening,

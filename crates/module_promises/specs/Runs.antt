@@ -5,7 +5,7 @@ use lib.ListN.{take}
 use Rattle.octets.specs.Octets.{Bytes}
 use Rattle.wire.specs.Frame.{Frame}
 use Rattle.reader.specs.Reader.{fresh}
-use Rattle.reader.specs.Runs.{Placed, handedOf}
+use Rattle.reader_promises.specs.Runs.{Placed, handedOf}
 use Rattle.module_model.specs.Answers.{countIn}
 use Rattle.module.specs.Step.{Left, stepOf}
 use Rattle.module_model.specs.declared.events.Event.{Event}

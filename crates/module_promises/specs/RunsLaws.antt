@@ -7,10 +7,10 @@ use lib.ListN.{length, take}
 use Rattle.octets.specs.Octets.{spelled, over}
 use Rattle.octets.specs.OctetsLaws.{take-over}
 use Rattle.wire.specs.Frame.{Frame, longestPayload, wireOf}
-use Rattle.reader.specs.Runs.{Placed}
-use Rattle.reader.specs.Seen.{Seen, outside, seenAfter, seenHanded}
-use Rattle.reader.specs.SeenLaws.{fresh-handed, handed-append}
-use Rattle.reader.specs.Feed.{handed-frame}
+use Rattle.reader_promises.specs.Runs.{Placed}
+use Rattle.reader_promises.specs.Seen.{Seen, outside, seenAfter, seenHanded}
+use Rattle.reader_promises.specs.SeenLaws.{fresh-handed, handed-append}
+use Rattle.reader_promises.specs.Feed.{handed-frame}
 use Rattle.module_model.specs.Rules.{framesOf}
 use Rattle.module_model.specs.Answers.{countIn}
 use Rattle.module.specs.Step.{wiresOf, answerOf, performed}

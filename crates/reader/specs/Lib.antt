@@ -1,15 +1,4 @@
--- The step that the contracts cite (Reader), the runs and the table that the promises speak of, the promises, and below them
--- their proofs: the reader as the promises see it (Seen), what a wire form brings (Feed), and a file for each promise.
+-- The step that the contracts cite (Reader), what a byte does to a reader (Moves), and the room that a content byte has (MovesLaws).
 pub mod Moves
 pub mod MovesLaws
 pub mod Reader
-pub mod Runs
-pub mod Table
-pub mod Promises
-pub mod Seen
-pub mod SeenLaws
-pub mod Feed
-pub mod Resync
-pub mod Bench
-pub mod Stretches
-pub mod RoundTrip

@@ -28,3 +28,16 @@ insideMove count pending b =
 -- The head always opens a frame. Outside a frame every other byte is passed over.
 unfoldable pub moveOf : ℕ → Bool → Bool → ℕ → Move
 moveOf count opened pending b = cond (eqb b headMark) Begin (cond opened (insideMove count pending b) Pass)
+
+-- The same names for the crates above, which see no private type: what a byte does, and three of its cases.
+abbrev pub Does : Type 0
+Does = Move
+
+abbrev pub passes : Does
+passes = Pass
+
+abbrev pub begins : Does
+begins = Begin
+
+abbrev pub waits : Does
+waits = Wait

@@ -51,19 +51,19 @@ test-of-parts c p =
     )
 
 -- A good verdict has passed each test on its way.
-passed : (t : Bool) (v : Verdict) → isGood (cond t v Bad) ≡ true → (t ≡ true) × (isGood v ≡ true)
-passed true v h = (refl, h)
-passed false v h = absurd (false≢true h)
+good-past : (t : Bool) (v : Verdict) → isGood (cond t v Bad) ≡ true → (t ≡ true) × (isGood v ≡ true)
+good-past true v h = (refl, h)
+good-past false v h = absurd (false≢true h)
 
 -- Where the test holds, the facts do.
 parts-of-test : (c : List ℕ) → isContent c ≡ true → Parts c
 unfolding isContent verdictOf
 parts-of-test c h =
-    let size = passed (leb shortestContent (length c)) _ h in
-    let most = passed (leb (length c) longestContent) _ (size .1) in
-    let count = passed (eqb (numberAt 2 c 0) (length c - 2)) _ (most .1) in
-    let ends = passed (eqb (getD c 2 0) device) _ (count .1) in
-    let check = passed (eqb (getD c (length c - 1) 0) (xorOf (take (length c - 1) c))) _ (ends .1) in
+    let size = good-past (leb shortestContent (length c)) _ h in
+    let most = good-past (leb (length c) longestContent) _ (size .1) in
+    let count = good-past (eqb (numberAt 2 c 0) (length c - 2)) _ (most .1) in
+    let ends = good-past (eqb (getD c 2 0) device) _ (count .1) in
+    let check = good-past (eqb (getD c (length c - 1) 0) (xorOf (take (length c - 1) c))) _ (ends .1) in
     record {
       long = leb-true shortestContent (length c) (size .0);
       short = leb-true (length c) longestContent (most .0);

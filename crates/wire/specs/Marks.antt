@@ -1,4 +1,5 @@
--- W5: where the marks stand in a wire form. The statements first; the proofs below use only the laws of the escape.
+-- W5: where the marks stand in a wire form. The statements first, of any wire form and of ours; the proofs below use only the laws of
+-- the escape.
 use Prim.Native.Nat.{ℕ}
 use mathlib.Core.Bool.{Bool, true, false}
 use mathlib.Core.List.{List, [], _∷_, _++_, List·Memᴰ, List·Memᴰ·head, List·Memᴰ·tail}
@@ -12,6 +13,10 @@ use Rattle.wire.specs.Escape.{headMark, escapeMark, tailMark, isMark, se
 use Rattle.wire.specs.EscapeLaws.{mark-not-head, mark-not-tail, second-follows, follow-not-mark, escape-mark, escape-plain}
 use Rattle.wire.specs.Frame.{Frame, contentOf, wireForm, wireOf}
 
+-- A wire form: the bytes that a frame has on the wire.
+abbrev pub Form : Type 0
+Form = Frame → List ℕ
+
 -- A byte that does not stand in the list.
 abbrev pub Without : ℕ → List ℕ → Type 0
 Without b bs = List·Memᴰ b bs → ⊥
@@ -23,12 +28,18 @@ pub record Marked (wire : List ℕ) : Type 0 where
   pub no-head : Without headMark middle
   pub no-tail : Without tailMark middle
 
+abbrev pub OnlyMarksOf : Form → Type 0
+OnlyMarksOf form = (f : Frame) → Marked (form f)
+
 abbrev pub OnlyMarks : Type 0
-OnlyMarks = (f : Frame) → Marked (wireOf f)
+OnlyMarks = OnlyMarksOf wireOf
 
 -- No wire form is a proper prefix of another.
+abbrev pub NoPrefixOf : Form → Type 0
+NoPrefixOf form = (f g : Frame) (rest : List ℕ) → form f ++ rest ≡ form g → rest ≡ []
+
 abbrev pub NoPrefix : Type 0
-NoPrefix = (f g : Frame) (rest : List ℕ) → wireOf f ++ rest ≡ wireOf g → rest ≡ []
+NoPrefix = NoPrefixOf wireOf
 
 -- ---- escaped content holds neither the head nor the tail
 

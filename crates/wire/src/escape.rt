@@ -9,14 +9,14 @@ pub const ESCAPE: u8 = 0xDC;
 pub const TAIL: u8 = 0xDE;
 
 // Whether a content byte has to be escaped.
-pub fn is_mark(byte: u8) -> bool
+pub(crate) fn is_mark(byte: u8) -> bool
     ensures { λ r. ⌜ r ≡ isMark byte ⌝ }
 {
     one_of(byte, HEAD, ESCAPE, TAIL)
 }
 
 // What follows the escape on the wire.
-pub fn second(byte: u8) -> u8
+pub(crate) fn second(byte: u8) -> u8
     ensures { λ r. ⌜ r ≡ secondOf byte ⌝ }
 {
     if byte == HEAD {

@@ -6,10 +6,10 @@ use native.Mathlib.Nat.{zero-add}
 use native.Mathlib.Numerals.{add-one}
 use lib.ListN.{length}
 use Rattle.wire.specs.Escape.{headMark}
-use Rattle.reader.specs.Runs.{Placed}
-use Rattle.reader.specs.Promises.{Resync}
-use Rattle.reader.specs.Seen.{outside, within, seenOf, seenHanded}
-use Rattle.reader.specs.SeenLaws.{handed-seen, handed-append, handed-head, handed-later, fresh-handed}
+use Rattle.reader_promises.specs.Runs.{Placed}
+use Rattle.reader_promises.specs.Promises.{Resync}
+use Rattle.reader_promises.specs.Seen.{outside, within, seenOf, seenHanded}
+use Rattle.reader_promises.specs.SeenLaws.{handed-seen, handed-append, handed-head, handed-later, fresh-handed}
 
 -- The bytes before the head, then the run from the head on, which is the same from every state.
 pub resync : Resync

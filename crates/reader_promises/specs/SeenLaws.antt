@@ -16,22 +16,20 @@ use Rattle.wire.specs.Frame.{Frame, frame, shortestContent, longestContent, ver
 use Rattle.wire.specs.declared.content.Verdict.{Verdict}
 use Rattle.wire.specs.declared.content.Verdict.the-variants.{Good, Bad}
 use Rattle.wire.specs.FrameLaws.{content-long}
 use Rattle.reader.specs.Reader.{fresh, knownOf, heldOf, closedOf, openedOf, answers}
 use Rattle.reader.specs.Reader.{payloadIn, framesIn, framesOf}
 use Rattle.reader.specs.Reader.{judgedBy, movedBy, knownStep, stepOf}
-use Rattle.reader.specs.Moves.{contentMove, followMove, tailMove, insideMove, moveOf}
-use Rattle.reader.specs.Runs.{later, handedFrom, handedOf}
-use Rattle.reader.specs.Promises.{Any}
+use Rattle.reader.specs.Moves.{contentMove, followMove, tailMove, insideMove, moveOf, Does, passes, begins, waits}
+use Rattle.reader_promises.specs.Runs.{later, handedBy, handedFrom, handedOf}
+use Rattle.reader_promises.specs.Promises.{Made}
 use Rattle.octets.specs.Choice.{by-test, either-way}
 use Rattle.octets.specs.Lists.{part-take}
-use Rattle.reader.specs.Seen.{Seen, outside, within, seenIn, seenOf, Sight, quiet, hands}
-use Rattle.reader.specs.Seen.{seenStep, seenFrames, seenAfter, seenHanded}
-use Rattle.reader.specs.Seen.{contentSight, followSight, tailSight, insideSight, pastSight, sightOf}
-use Rattle.reader.specs.declared.moves.Move.{Move}
-use Rattle.reader.specs.declared.moves.Move.the-variants.{Pass, Begin, Wait}
+use Rattle.reader_promises.specs.Seen.{Seen, outside, within, seenIn, seenOf, Sight, quiet, hands}
+use Rattle.reader_promises.specs.Seen.{seenStep, seenFrames, seenAfter, seenHanded}
+use Rattle.reader_promises.specs.Seen.{contentSight, followSight, tailSight, insideSight, pastSight, sightOf}
 use Rattle.reader.specs.declared.steps.Reader.{Reader}
 use Rattle.reader.specs.declared.steps.Stepped.{Stepped}
 use Rattle.reader.specs.declared.steps.Heard.the-variants.{Dropped, Nothing}
 
 -- A reader with a whole store whose count is in it.
 pub record Known (r : Reader) : Type 0 where
@@ -72,7 +70,7 @@ module _ (store : List ℕ) (count : ℕ) (size : length store ≡ longestConten
   put-held b h = rw add-one (take-suc-set store count b (omega arith))
 
   -- A move of a reader inside a frame is seen as this.
-  abbrev MoveAs : Bool → Move → Sight → Type 0
+  abbrev MoveAs : Bool → Does → Sight → Type 0
   MoveAs p move sight = SeenAs (movedBy move (insideOf store count p)) sight
 
   -- A content byte is put behind the content so far, or the frame is dropped.
@@ -114,7 +112,7 @@ module _ (store : List ℕ) (count : ℕ) (size : length store ≡ longestConten
   tail-seen false = judged-seen false (verdictOf (take count store)) refl
 
   -- The escape waits for the next byte.
-  waiting-seen : (p : Bool) → MoveAs p Wait (quiet (within true (take count store)))
+  waiting-seen : (p : Bool) → MoveAs p waits (quiet (within true (take count store)))
   unfolding heldOf
   waiting-seen p = record { known = still true true; after = refl; handed = refl }
 
@@ -128,13 +126,13 @@ module _ (store : List ℕ) (count : ℕ) (size : length store ≡ longestConten
 
   -- Any byte but the head, inside a frame or not.
   past-seen : (o p : Bool) (b : ℕ)
-      → SeenAs (movedBy (cond o (insideMove count p b) Pass) (readerOf o store count p))
+      → SeenAs (movedBy (cond o (insideMove count p b) passes) (readerOf o store count p))
       (pastSight (cond o (within p (take count store)) outside) b)
   past-seen true p b = inside-seen p b
   past-seen false p b = record { known = still false p; after = refl; handed = refl }
 
 -- The head opens a frame, and hands out nothing.
-head-seen : (r : Reader) → Known r → SeenAs (movedBy Begin r) (quiet (within false []))
+head-seen : (r : Reader) → Known r → SeenAs (movedBy begins r) (quiet (within false []))
 unfolding heldOf
 head-seen r k = record { known = record { size = k .size; low = omega arith }; after = refl; handed = none (r .opened) }
   where
@@ -146,7 +144,7 @@ head-seen r k = record { known = record { size = k .size; low = omega arith }; a
 known-seen : (r : Reader) → Known r → (b : ℕ) → SeenAs (knownStep r b) (sightOf (seenIn r) b)
 unfolding knownStep moveOf sightOf heldOf
 known-seen r k b =
-    by-test (λ (move : Move) (sight : Sight). SeenAs (movedBy move r) sight) (eqb b headMark) (λ h. head-seen r k)
+    by-test (λ (move : Does) (sight : Sight). SeenAs (movedBy move r) sight) (eqb b headMark) (λ h. head-seen r k)
     (λ h. past-seen (r .store) (r .count) (k .size) (k .low) (r .opened) (r .pending) b)
 
 -- A fresh reader is known.
@@ -155,7 +153,7 @@ unfolding fresh
 fresh-known = record { size = length-replicate {A = ℕ} longestContent 0; low = omega arith }
 
 -- Any reader is known, as it is taken.
-known-of : (r : Reader) → Any r → Known (knownOf r)
+known-of : (r : Reader) → Made r → Known (knownOf r)
 unfolding knownOf
 known-of r a =
     either-way Known (leb (r .count) longestContent)
@@ -168,31 +166,31 @@ unfolding knownOf
 known-same r k = rw (le-leb (r .count) longestContent (k .low))
 
 -- Every byte to any reader.
-any-seen : (r : Reader) → Any r → (b : ℕ) → SeenAs (stepOf r b) (sightOf (seenOf r) b)
+any-seen : (r : Reader) → Made r → (b : ℕ) → SeenAs (stepOf r b) (sightOf (seenOf r) b)
 unfolding stepOf seenOf
 any-seen r a b = known-seen (knownOf r) (known-of r a) b
 
 -- The reader after a step is known: the store keeps its size, and the count is in it.
-pub step-known : (r : Reader) → Any r → (b : ℕ) → Known (stepOf r b .reader)
+pub step-known : (r : Reader) → Made r → (b : ℕ) → Known (stepOf r b .reader)
 step-known r a b = any-seen r a b .known
 
-pub step-size : (r : Reader) → Any r → (b : ℕ) → Any (stepOf r b .reader)
+pub step-size : (r : Reader) → Made r → (b : ℕ) → Made (stepOf r b .reader)
 step-size r a b = step-known r a b .size
 
 -- The view of the reader after a step is the view's step.
-pub step-seen : (r : Reader) → Any r → (b : ℕ) → seenOf (stepOf r b .reader) ≡ seenStep (seenOf r) b
+pub step-seen : (r : Reader) → Made r → (b : ℕ) → seenOf (stepOf r b .reader) ≡ seenStep (seenOf r) b
 unfolding seenOf
 step-seen r a b = ap seenIn (known-same (stepOf r b .reader) (any-seen r a b .known)) ∙ any-seen r a b .after
 
 -- The frames that a step hands out are those of the view's step.
-pub step-frames : (r : Reader) → Any r → (b : ℕ) → framesOf (stepOf r b) ≡ seenFrames (seenOf r) b
+pub step-frames : (r : Reader) → Made r → (b : ℕ) → framesOf (stepOf r b) ≡ seenFrames (seenOf r) b
 step-frames r a b = any-seen r a b .handed
 
 -- ---- runs
 
 -- A run of any reader hands out what the run of its view does.
-pub handed-seen : (r : Reader) → Any r → (k : ℕ) (bs : List ℕ) → handedFrom r k bs ≡ seenHanded (seenOf r) k bs
-unfolding handedFrom seenHanded
+pub handed-seen : (r : Reader) → Made r → (k : ℕ) (bs : List ℕ) → handedFrom r k bs ≡ seenHanded (seenOf r) k bs
+unfolding handedBy seenHanded
 handed-seen r a k [] = refl
 handed-seen r a k (b ∷ bs) =
     rw (step-frames r a b, handed-seen (stepOf r b .reader) (step-size r a b) (suc k) bs, step-seen r a b)

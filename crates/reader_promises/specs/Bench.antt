@@ -6,12 +6,12 @@ use lib.ListN.{length}
 use Rattle.octets.specs.Octets.{little, spelled, numberAt, xorFrom}
 use Rattle.wire.specs.Escape.{isMark, secondOf, mayFollow, originalOf, escapeOf, escaped}
 use Rattle.wire.specs.Frame.{uncheckedOf, contentOf, wireForm, wireOf, verdictOf, isContent}
-use Rattle.reader.specs.Runs.{Placed, placed}
-use Rattle.reader.specs.Table.{Row, benchTable, printedRow}
-use Rattle.reader.specs.Promises.{BenchTable, PrintedRow}
+use Rattle.reader_promises.specs.Runs.{Placed, placed}
+use Rattle.reader_promises.specs.Table.{Row, benchTable, printedRow}
+use Rattle.reader_promises.specs.Promises.{BenchTable, PrintedRow, BenchFrames}
 use Rattle.octets.specs.Lists.{same-each}
-use Rattle.reader.specs.Seen.{outside, seenHanded, sightOf, insideSight, tailSight, followSight, contentSight}
-use Rattle.reader.specs.SeenLaws.{fresh-handed}
+use Rattle.reader_promises.specs.Seen.{outside, seenHanded, sightOf, insideSight, tailSight, followSight, contentSight}
+use Rattle.reader_promises.specs.SeenLaws.{fresh-handed}
 
 -- What a row's frame is written as.
 abbrev writtenOf : Row → List ℕ
@@ -49,3 +49,8 @@ bench-table row m = (
 -- The row as the papers print it.
 pub printed-row : PrintedRow
 printed-row = fresh-handed printedRow ∙ all-read .1
+
+-- The frames that the rules build.
+pub bench-frames : BenchFrames
+unfolding spelled
+bench-frames = refl

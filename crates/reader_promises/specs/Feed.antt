@@ -12,10 +12,10 @@ use Rattle.wire.specs.EscapeLaws.{mark-not-head, mark-not-escape, mark-not-tail
 use Rattle.wire.specs.EscapeLaws.{escape-mark, escape-plain}
 use Rattle.wire.specs.Frame.{Frame, longestPayload, longestContent, contentOf, wireForm, wireOf, isContent, frameIn}
 use Rattle.wire.specs.FrameLaws.{length-content, content-good, frame-in-content}
-use Rattle.reader.specs.Runs.{placed}
-use Rattle.reader.specs.Seen.{Seen, within, Sight, quiet, hands, seenAfter, seenHanded}
-use Rattle.reader.specs.Seen.{contentSight, followSight, tailSight, insideSight, sightOf}
-use Rattle.reader.specs.SeenLaws.{handed-append, after-append, handed-head}
+use Rattle.reader_promises.specs.Runs.{placed}
+use Rattle.reader_promises.specs.Seen.{Seen, within, Sight, quiet, hands, seenAfter, seenHanded}
+use Rattle.reader_promises.specs.Seen.{contentSight, followSight, tailSight, insideSight, sightOf}
+use Rattle.reader_promises.specs.SeenLaws.{handed-append, after-append, handed-head}
 
 -- ---- one byte
 

@@ -18,14 +18,14 @@ use Rattle.wire.specs.EscapeLaws.{not-mark, original-mark, second-original, ori
 use Rattle.wire.specs.EscapeLaws.{escape-mark, escape-plain, escaped-snoc}
 use Rattle.wire.specs.Frame.{Frame, Acceptable, longestPayload, longestContent, wireForm, wireOf, isContent, frameIn}
 use Rattle.wire.specs.FrameLaws.{content-of-frame, content-acceptable}
-use Rattle.reader.specs.Runs.{Placed, placed, RisingFrom}
-use Rattle.reader.specs.Promises.{StandsIn, EveryStretch}
+use Rattle.reader_promises.specs.Runs.{Placed, placed, RisingFrom}
+use Rattle.reader_promises.specs.Promises.{StandsIn, EveryStretch}
 use Rattle.octets.specs.Choice.{either-way}
 use Rattle.octets.specs.Lists.{bytes-snoc}
-use Rattle.reader.specs.Seen.{Seen, outside, within, Sight, quiet, seenStep, seenFrames, seenHanded}
-use Rattle.reader.specs.Seen.{contentSight, followSight, tailSight, insideSight, pastSight, sightOf}
-use Rattle.reader.specs.SeenLaws.{handed-append, fresh-handed, each-sight}
-use Rattle.reader.specs.Feed.{handed-frame}
+use Rattle.reader_promises.specs.Seen.{Seen, outside, within, Sight, quiet, seenStep, seenFrames, seenHanded}
+use Rattle.reader_promises.specs.Seen.{contentSight, followSight, tailSight, insideSight, pastSight, sightOf}
+use Rattle.reader_promises.specs.SeenLaws.{handed-append, fresh-handed, each-sight}
+use Rattle.reader_promises.specs.Feed.{handed-frame}
 
 -- ---- sound: an invariant on the bytes so far
 

@@ -6,9 +6,9 @@ use lib.Dec.{eqb, ltb}
 use lib.ListN.{length}
 use Rattle.wire.specs.Escape.{headMark, escapeMark, tailMark, mayFollow, originalOf}
 use Rattle.wire.specs.Frame.{Frame, longestContent, isContent, frameIn}
 use Rattle.reader.specs.Reader.{knownOf, heldOf}
-use Rattle.reader.specs.Runs.{Placed, placed}
+use Rattle.reader_promises.specs.Runs.{Placed, placed}
 use Rattle.reader.specs.declared.steps.Reader.{Reader}
 
 -- Outside a frame, or within one: whether an escape is pending, and the content so far.
 pub data Seen : Type 0 where
