@@ -49,7 +49,7 @@ kept-last flash x (y ∷ xs) h = kept-last (keptBy flash x) y xs h
 -- ---- the declared range
 
 -- Parameters that declare a transfer name its base.
-base-is : (x : Exchange) (t : Transfer) → Declares x t → baseIn x ≡ baseOf (t .kind)
+pub base-is : (x : Exchange) (t : Transfer) → Declares x t → baseIn x ≡ baseOf (t .kind)
 base-is x t d = ap baseBy (d .kind-is)
 
 -- ---- at success

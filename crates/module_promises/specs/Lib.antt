@@ -12,6 +12,7 @@ pub mod Said
 pub mod Track
 pub mod Success
 pub mod Flash
+pub mod When
 pub mod Reach
 pub mod Clean
 pub mod Readings

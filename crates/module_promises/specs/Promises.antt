@@ -2,6 +2,7 @@
 use Prim.Native.Nat.{ℕ, zero, suc, _+_, _-_, _^_, _≤_, _<_}
 use mathlib.Core.Bool.{true, false, cond}
 use mathlib.Core.List.{List, [], _∷_, _++_, List·Memᴰ}
+use mathlib.Core.Logic.{_⊎_}
 use mathlib.Core.Path.{_≡_}
 use lib.ListN.{length, getD, take}
 use Rattle.octets.specs.Octets.{Bytes, numberAt, partOf, laid}
@@ -256,10 +257,15 @@ OnlyInRange = OnlyInRangeOf stepOf
 
 -- ---- M3, the clean transfer
 
--- Time events whose milliseconds, counted on from a sum, come to at most 7,000. Their payloads and reply buffers are any.
+-- A reply buffer under 64 bytes is offered, so that the event is refused with 2: it is neither time nor a frame. (Where nobody else
+-- writes, the flash is lent as the last step left it, so none of another length, refused with 3, can come.)
+abbrev pub NoRoom : Offer → Type 0
+NoRoom o = length (o .reply) < smallestReply
+
+-- Events that are refused so, frames too, and time events whose milliseconds, counted on from a sum, come to at most 7,000.
 abbrev pub Pause : ℕ → List Offer → Type 0
 Pause sum [] = sum ≤ longestIdle
-Pause sum (o ∷ os) = (ms : ℕ) × (o .event ≡ Elapsed ms) × Pause (sum + ms) os
+Pause sum (o ∷ os) = (NoRoom o × Pause sum os) ⊎ ((ms : ℕ) × (o .event ≡ Elapsed ms) × Pause (sum + ms) os)
 
 -- A frame is offered with a reply buffer of at least 64 bytes; its payload is the front of the lent slice.
 pub record Frames (command : ℕ) (payload : List ℕ) (o : Offer) : Type 0 where
