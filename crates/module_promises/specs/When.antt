@@ -43,7 +43,7 @@ use Rattle.module.specs.declared.session.Session.{Session}
 -- ---- the last parameters
 
 -- A history has one last exchange that accepts parameters.
-last-only : (history : List Exchange) (p : Exchange) (ps : List Exchange) (q : Exchange) (qs : List Exchange)
+pub last-only : (history : List Exchange) (p : Exchange) (ps : List Exchange) (q : Exchange) (qs : List Exchange)
     → LastParameters history p ps → LastParameters history q qs → (p ≡ q) × (ps ≡ qs)
 last-only history p ps q qs l m = go (l .before) (m .before) (sym (l .split) ∙ m .split)
   where
@@ -64,7 +64,7 @@ last-there history p ps l = rw (l .split) (Memᴰ·append-right (l .before) (Lis
 -- ---- what is heard of a packet
 
 -- The command of an event.
-abbrev commandIn : Event → ℕ
+abbrev pub commandIn : Event → ℕ
 commandIn (Frame command count) = command
 commandIn (Elapsed ms) = 0
 

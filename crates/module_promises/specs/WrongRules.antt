@@ -1,0 +1,124 @@
+-- Our step with another rule for frames, and such rules, each a small variation of ours; what is heard of such a step.
+use Prim.Native.Nat.{ℕ, _+_}
+use mathlib.Core.Bool.{cond, _&&_}
+use mathlib.Core.List.{List}
+use mathlib.Core.Path.{_≡_, refl}
+use lib.Dec.{eqb, ltb}
+use lib.ListN.{length, take}
+use Rattle.refusals.specs.Refusals.{noRoom, wrongLength}
+use Rattle.commands.specs.Commands.{packetCommand}
+use Rattle.module_model.specs.Phases.{totalOf}
+use Rattle.module_model.specs.Rules.{notTaken, numbersIn, isPacket, acknowledged, decideOf}
+use Rattle.module.specs.Session.{stepped, takes}
+use Rattle.module.specs.Step.{Left, left, performed, timeStep, smallestReply, frameStep, stepOf}
+use Rattle.module_promises.specs.Runs.{Step}
+use Rattle.module_model.specs.declared.phases.Phase.{Phase}
+use Rattle.module_model.specs.declared.phases.Phase.the-variants.{Closed, Ready, Begun, Loading, Done}
+use Rattle.module_model.specs.declared.events.Event.{Event}
+use Rattle.module_model.specs.declared.events.Event.the-variants.{Frame, Elapsed}
+use Rattle.module_model.specs.declared.events.Answer.the-variants.{Refused}
+use Rattle.module_model.specs.declared.events.Answer.the-variants as answer
+use Rattle.module_model.specs.declared.rules.Say.the-variants.{Last}
+use Rattle.module_model.specs.declared.rules.Put.{Put}
+use Rattle.module_model.specs.declared.rules.Put.the-variants.{Nowhere, At}
+use Rattle.module_model.specs.declared.rules.Decision.{Decision}
+use Rattle.module.specs.declared.session.Session.{Session}
+
+-- ---- a step by a rule
+
+-- What a frame given to an open session does, by its phase, the command, the payload and the flash.
+abbrev pub Rule : Type 0
+Rule = Phase → ℕ → List ℕ → List ℕ → Decision
+
+abbrev eventBy : Rule → Step
+eventBy rule s (Frame command count) payload flash reply =
+    performed s (rule (s .phase) command (take count payload) flash) (take count payload) flash reply
+eventBy rule s (Elapsed ms) payload flash reply = left (timeStep s ms) flash reply
+
+-- Our step with this rule.
+abbrev pub stepBy : Rule → Step
+stepBy rule s e payload flash reply =
+    cond (ltb (length reply) smallestReply) (left (stepped s (Refused noRoom)) flash reply)
+    (cond (eqb (length flash) (s .flash))
+    (cond (takes s) (eventBy rule s e payload flash reply) (left (stepped s answer.Nothing) flash reply))
+    (left (stepped s (Refused wrongLength)) flash reply))
+
+-- With our rule it is our step.
+pub step-ours : (s : Session) (e : Event) (payload flash reply : List ℕ)
+    → stepBy decideOf s e payload flash reply ≡ stepOf s e payload flash reply
+unfolding stepOf frameStep
+step-ours s (Frame command count) payload flash reply = refl
+step-ours s (Elapsed ms) payload flash reply = refl
+
+-- ---- wrong rules
+
+-- Every packet is refused.
+abbrev pub refusesAll : Rule
+refusesAll phase command payload flash = cond (eqb command packetCommand) (notTaken phase) (decideOf phase command payload flash)
+
+-- When done, every packet is refused, repeats too.
+abbrev doneRefuses : Phase → ℕ → Decision → Decision
+doneRefuses Closed command d = d
+doneRefuses Ready command d = d
+doneRefuses (Begun t) command d = d
+doneRefuses (Loading p number written) command d = d
+doneRefuses (Done p written) command d = cond (eqb command packetCommand) (notTaken (Done p written)) d
+
+abbrev pub refusesRepeats : Rule
+refusesRepeats phase command payload flash = doneRefuses phase command (decideOf phase command payload flash)
+
+-- The transfer is done with the last packet but one.
+abbrev endsEarly : Phase → Decision → Decision
+endsEarly Closed d = d
+endsEarly Ready d = d
+endsEarly (Begun t) d = d
+endsEarly (Loading p number written) d =
+    cond (eqb (number + 1) (totalOf p)) (record { phase = Done p written; say = Last number 0; put = d .put }) d
+endsEarly (Done p written) d = d
+
+abbrev pub saysEarly : Rule
+saysEarly phase command payload flash = let d = decideOf phase command payload flash in endsEarly (d .phase) d
+
+-- Nothing is written.
+abbrev pub writesNothing : Rule
+writesNothing phase command payload flash =
+    let d = decideOf phase command payload flash in record { phase = d .phase; say = d .say; put = Nowhere }
+
+-- Packet 1 is written, the others are merely acknowledged.
+abbrev firstPut : Phase → Put → Put
+firstPut Closed put = Nowhere
+firstPut Ready put = Nowhere
+firstPut (Begun t) put = put
+firstPut (Loading p number written) put = Nowhere
+firstPut (Done p written) put = Nowhere
+
+abbrev pub writesFirst : Rule
+writesFirst phase command payload flash =
+    let d = decideOf phase command payload flash in record { phase = d .phase; say = d .say; put = firstPut phase (d .put) }
+
+-- Data are written one place further on.
+abbrev oneOn : Put → Put
+oneOn Nowhere = Nowhere
+oneOn (At place) = At (place + 1)
+
+abbrev pub writesOneOn : Rule
+writesOneOn phase command payload flash =
+    let d = decideOf phase command payload flash in record { phase = d .phase; say = d .say; put = oneOn (d .put) }
+
+-- When done, a repeat is acknowledged whatever its bytes are.
+abbrev uncompared : Phase → ℕ → List ℕ → Decision → Decision
+uncompared Closed command payload d = d
+uncompared Ready command payload d = d
+uncompared (Begun t) command payload d = d
+uncompared (Loading p number written) command payload d = d
+uncompared (Done p written) command payload d =
+    cond (eqb command packetCommand && isPacket p (totalOf p) (numbersIn payload)) (acknowledged (Done p written) (totalOf p) Nowhere) d
+
+abbrev pub comparesNothing : Rule
+comparesNothing phase command payload flash = uncompared phase command payload (decideOf phase command payload flash)
+
+-- ---- another session
+
+-- What a step leaves, with another session.
+abbrev pub leaving : Session → Left → Left
+leaving s l = record { session = s; answer = l .answer; flash = l .flash; reply = l .reply }
