@@ -140,7 +140,7 @@ abbrev pub NoCommand : ℕ → List wire.Frame → Type 0
 NoCommand n [] = Unit
 NoCommand n (f ∷ fs) = (eqb (f .command) n ≡ false) × NoCommand n fs
 
-has-none : (n : ℕ) (fs : List wire.Frame) (f : wire.Frame) → NoCommand n fs → List·Memᴰ f fs → f .command ≡ n → ⊥
+pub has-none : (n : ℕ) (fs : List wire.Frame) (f : wire.Frame) → NoCommand n fs → List·Memᴰ f fs → f .command ≡ n → ⊥
 has-none n [] f none m is = List·Memᴰ·not-nil m
 has-none n (g ∷ fs) f none m is =
     ⊎-elim (λ (e : f ≡ g). eqb-false (g .command) n (none .0) (sym (ap (λ (h : wire.Frame). h .command) e) ∙ is))

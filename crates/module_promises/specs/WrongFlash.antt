@@ -1,10 +1,11 @@
--- Wrong steps that break M2: one writes nothing, one packet 1 only, one does not compare repeats, one writes one place further on.
-use Prim.Native.Nat.{ℕ, _<_}
+-- Wrong steps that break M2: one writes nothing, one packet 1 only, one does not compare repeats, one writes one place further on, one
+-- writes repeats, one writes type 1 at address 0.
+use Prim.Native.Nat.{ℕ, _≤_, _<_}
 use mathlib.Core.List.{List, [], _∷_, _++_, List·Memᴰ·head, List·Memᴰ·tail}
 use mathlib.Core.Path.{_≡_, refl, sym, ap, _∙_}
 use native.Mathlib.Omega.{arith}
-use lib.ListN.{length, getD}
-use Rattle.octets.specs.Octets.{Bytes, numberAt, little, spelled, laid}
+use lib.ListN.{length, getD, replicate}
+use Rattle.octets.specs.Octets.{Bytes, numberAt, little, spelled, partOf, sameBytes, laid}
 use Rattle.octets.specs.Lists.{bytes-spelled}
 use Rattle.kinds.specs.Kinds.{kindOf, fitsFlash}
 use Rattle.pieces.specs.Pieces.{countOf, sizeAt}
@@ -20,10 +21,11 @@ use Rattle.module_promises.specs.Promises.{SuccessHoldsOf, OnlyInRangeOf
 use Rattle.module_promises.specs.When.{last-only}
 use Rattle.module_promises.specs.Tiny.{flash, image, declares, sends, zeros64, tiny-bytes, heardOf, no-parameters, last-first}
 use Rattle.module_promises.specs.Tiny.{flash8, declares8, sends1, sends2, eight-bytes, begun4, done4, begun8, loading8}
-use Rattle.module_promises.specs.WrongRules.{stepBy, writesNothing, writesFirst, comparesNothing, writesOneOn}
+use Rattle.module_promises.specs.WrongRules.{stepBy, writesNothing, writesFirst, comparesNothing, writesOneOn, writesRepeats, writesAtAddress}
 use Rattle.module_model.specs.declared.phases.Phase.the-variants.{Ready}
 use Rattle.module_model.specs.declared.events.Event.the-variants.{Frame}
 use Rattle.module_model.specs.declared.rules.Put.the-variants.{Nowhere}
+use Rattle.module.specs.declared.session.Session.{Session}
 
 -- ---- what success says, told of parameters that are known
 
@@ -215,4 +217,78 @@ writes-one-on-refuted promise =
     let last = last-first w0 [] (rw shifting-heard (List·Memᴰ·head refl)) tt in
     let same = last-only (w0 ∷ []) (there .parameters) (there .since) w0 [] (there .last) last .0 in
     let less : 4 < 4 = rw same at (there .to-end) in
+    omega (arith, less)
+
+-- ---- a repeat is written behind the last packet
+
+abbrev repeating : Step
+repeating = stepBy writesRepeats
+
+abbrev v0 : Exchange
+v0 = exchangeBy repeating (opened flash8) (given flash8 declares)
+
+abbrev v1 : Exchange
+v1 = exchangeBy repeating (v0 .left .session) (given flash8 sends)
+
+-- The transfer of four bytes has begun in a flash of eight.
+abbrev wide : Session
+wide = session 8 0 (begun4 .phase)
+
+repeating-heard : (heardOf v0 ≡ parametersReply largestPacket accepted ∷ []) × (heardOf v1 ≡ packetReply 1 accepted ∷ notice 0 ∷ [])
+unfolding openingOf takes alive openable kindOf fitsFlash countOf numberAt little rules.decideOf rules.parametersDecision rules.kindDecision
+    rules.packetDecision rules.wellFormed rules.numbersIn rules.firstDecision rules.cutsInto rules.phaseAt rules.stateOf
+repeating-heard = (
+  heard-performed (opened flash8) (writesRepeats Ready 2 (declares .payload) flash8) (declares .payload) flash8 (declares .reply),
+  heard-performed wide (writesRepeats (wide .phase) 5 (sends .payload) flash8) (sends .payload) flash8 (sends .reply),
+)
+
+pub writes-repeats-refuted : OnlyInRangeOf repeating → ⊥
+unfolding runBy afterBy openingOf takes alive openable cuts doneArises kindOf fitsFlash countOf sizeAt numberAt little partOf sameBytes laid
+    rules.decideOf rules.parametersDecision rules.kindDecision rules.packetDecision rules.wellFormed rules.numbersIn rules.firstDecision
+    rules.doneDecision rules.repeatDecision rules.isRepeat rules.isPacket rules.cutsInto rules.phaseAt
+writes-repeats-refuted promise =
+    let both = promise (online flash8) (given flash8 declares ∷ given flash8 sends ∷ []) (given half sends) (tiny-bytes .0, (tiny-bytes .1, tt))
+    (tiny-bytes .1) in
+    let there = both .1 4 (λ (e : _≡_ {A = ℕ} 1 9). omega (arith, e)) in
+    let last = last-first v0 (v1 ∷ []) (rw (repeating-heard .0) (List·Memᴰ·head refl))
+    (no-parameters v1 _ (repeating-heard .1) (refl, (refl, tt)), tt) in
+    let same = last-only (v0 ∷ v1 ∷ []) (there .parameters) (there .since) v0 (v1 ∷ []) (there .last) last .0 in
+    let less : 4 < 4 = rw same at (there .to-end) in
+    omega (arith, less)
+
+-- ---- type 1 is written at address 0
+
+abbrev astray : Step
+astray = stepBy writesAtAddress
+
+-- A flash that ends with the first byte of type 1, its parameters for one byte, and that byte.
+abbrev flash1 : List ℕ
+flash1 = replicate 0x8001 9
+
+abbrev declares1 : Offer
+declares1 = record { event = Frame 2 10; payload = 1 ∷ 0 ∷ 1 ∷ 0 ∷ 0 ∷ 0 ∷ 0 ∷ 0 ∷ 0 ∷ 0 ∷ []; reply = zeros64 }
+
+abbrev byte1 : Offer
+byte1 = record { event = Frame 5 7; payload = 1 ∷ 0 ∷ 1 ∷ 0 ∷ 1 ∷ 0 ∷ 5 ∷ []; reply = zeros64 }
+
+astray-bytes : Bytes (declares1 .payload) × Bytes (byte1 .payload)
+unfolding spelled little
+astray-bytes = (bytes-spelled 10 (little (declares1 .payload)), bytes-spelled 7 (little (byte1 .payload)))
+
+abbrev u0 : Exchange
+u0 = exchangeBy astray (opened flash1) (given flash1 declares1)
+
+astray-heard : heardOf u0 ≡ parametersReply largestPacket accepted ∷ []
+unfolding openingOf takes alive openable kindOf fitsFlash numberAt little rules.decideOf rules.parametersDecision rules.kindDecision
+astray-heard = heard-performed (opened flash1) (writesAtAddress Ready 2 (declares1 .payload) flash1) (declares1 .payload) flash1 (declares1 .reply)
+
+pub writes-at-address-refuted : OnlyInRangeOf astray → ⊥
+unfolding runBy afterBy openingOf takes alive openable kindOf fitsFlash countOf numberAt little laid rules.decideOf rules.parametersDecision
+    rules.kindDecision rules.packetDecision rules.wellFormed rules.numbersIn rules.firstDecision rules.cutsInto rules.phaseAt
+writes-at-address-refuted promise =
+    let both = promise (online flash1) (given flash1 declares1 ∷ []) (given flash1 byte1) (astray-bytes .0, tt) (astray-bytes .1) in
+    let there = both .1 0 (λ (e : _≡_ {A = ℕ} 5 9). omega (arith, e)) in
+    let last = last-first u0 [] (rw astray-heard (List·Memᴰ·head refl)) tt in
+    let same = last-only (u0 ∷ []) (there .parameters) (there .since) u0 [] (there .last) last .0 in
+    let less : 0x8000 ≤ 0 = rw same at (there .from-base) in
     omega (arith, less)

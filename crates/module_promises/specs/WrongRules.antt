@@ -1,14 +1,15 @@
 -- Our step with another rule for frames, and such rules, each a small variation of ours; what is heard of such a step.
-use Prim.Native.Nat.{ℕ, _+_}
+use Prim.Native.Nat.{ℕ, _+_, _-_}
 use mathlib.Core.Bool.{cond, _&&_}
 use mathlib.Core.List.{List}
 use mathlib.Core.Path.{_≡_, refl}
 use lib.Dec.{eqb, ltb}
 use lib.ListN.{length, take}
 use Rattle.refusals.specs.Refusals.{noRoom, wrongLength}
-use Rattle.commands.specs.Commands.{packetCommand}
+use Rattle.kinds.specs.Kinds.{baseOf, tokenOf}
+use Rattle.commands.specs.Commands.{packetCommand, accepted}
 use Rattle.module_model.specs.Phases.{totalOf}
-use Rattle.module_model.specs.Rules.{notTaken, numbersIn, isPacket, acknowledged, decideOf}
+use Rattle.module_model.specs.Rules.{notTaken, dataIn, numbersIn, placeOf, isPacket, acknowledged, loadingDecision, decideOf}
 use Rattle.module.specs.Session.{stepped, takes}
 use Rattle.module.specs.Step.{Left, left, performed, timeStep, smallestReply, frameStep, stepOf}
 use Rattle.module_promises.specs.Runs.{Step}
@@ -18,7 +19,9 @@ use Rattle.module_model.specs.declared.events.Event.{Event}
 use Rattle.module_model.specs.declared.events.Event.the-variants.{Frame, Elapsed}
 use Rattle.module_model.specs.declared.events.Answer.the-variants.{Refused}
 use Rattle.module_model.specs.declared.events.Answer.the-variants as answer
-use Rattle.module_model.specs.declared.rules.Say.the-variants.{Last}
+use Rattle.module_model.specs.declared.rules.Say.{Say}
+use Rattle.module_model.specs.declared.rules.Say.the-variants.{Nothing, Rate, Parameters, Packet, Last, Restart}
+use Rattle.module_model.specs.declared.rules.Numbers.{Numbers}
 use Rattle.module_model.specs.declared.rules.Put.{Put}
 use Rattle.module_model.specs.declared.rules.Put.the-variants.{Nowhere, At}
 use Rattle.module_model.specs.declared.rules.Decision.{Decision}
@@ -116,6 +119,76 @@ uncompared (Done p written) command payload d =
 
 abbrev pub comparesNothing : Rule
 comparesNothing phase command payload flash = uncompared phase command payload (decideOf phase command payload flash)
+
+-- While loading, the Total of a packet is not compared.
+abbrev anyTotal : Phase → ℕ → List ℕ → List ℕ → Decision → Decision
+anyTotal Closed command payload flash d = d
+anyTotal Ready command payload flash d = d
+anyTotal (Begun t) command payload flash d = d
+anyTotal (Loading p number written) command payload flash d =
+    let given = numbersIn payload in
+    cond (eqb command packetCommand)
+    (loadingDecision p number written (record { total = totalOf p; number = given .number; size = given .size }) (dataIn payload) flash) d
+anyTotal (Done p written) command payload flash d = d
+
+abbrev pub comparesNoTotal : Rule
+comparesNoTotal phase command payload flash = anyTotal phase command payload flash (decideOf phase command payload flash)
+
+-- A packet whose number is its Total ends the transfer, whichever came before it.
+abbrev lastAtOnce : Phase → ℕ → Numbers → Decision → Decision
+lastAtOnce Closed command given d = d
+lastAtOnce Ready command given d = d
+lastAtOnce (Begun t) command given d =
+    cond (eqb command packetCommand && eqb (given .number) (given .total))
+    (acknowledged (Done (record { transfer = t; size = given .size }) (t .length)) (given .number) Nowhere) d
+lastAtOnce (Loading p number written) command given d = d
+lastAtOnce (Done p written) command given d = d
+
+abbrev pub skipsPackets : Rule
+skipsPackets phase command payload flash = lastAtOnce phase command (numbersIn payload) (decideOf phase command payload flash)
+
+-- The last packet is acknowledged, and no notice follows.
+abbrev unnoticed : Say → Say
+unnoticed Nothing = Nothing
+unnoticed (Rate rate ack) = Rate rate ack
+unnoticed (Parameters ack) = Parameters ack
+unnoticed (Packet number ack) = Packet number ack
+unnoticed (Last number state) = Packet number accepted
+unnoticed (Restart ack) = Restart ack
+
+abbrev pub saysNoNotice : Rule
+saysNoNotice phase command payload flash =
+    let d = decideOf phase command payload flash in record { phase = d .phase; say = unnoticed (d .say); put = d .put }
+
+-- Data are written at the address that the parameters carry, so 0 for type 1.
+abbrev atAddress : Phase → Put → Put
+atAddress (Begun t) (At place) = At (place - baseOf (t .kind) + tokenOf (t .kind))
+atAddress (Begun t) Nowhere = Nowhere
+atAddress Closed put = put
+atAddress Ready put = put
+atAddress (Loading p number written) put = put
+atAddress (Done p written) put = put
+
+abbrev pub writesAtAddress : Rule
+writesAtAddress phase command payload flash =
+    let d = decideOf phase command payload flash in record { phase = d .phase; say = d .say; put = atAddress phase (d .put) }
+
+-- When done, a repeat is written as new data behind the last packet.
+abbrev behindLast : Phase → Say → Put → Put
+behindLast (Done p written) (Last number state) put = At (placeOf p (number + 1))
+behindLast (Done p written) Nothing put = put
+behindLast (Done p written) (Rate rate ack) put = put
+behindLast (Done p written) (Parameters ack) put = put
+behindLast (Done p written) (Packet number ack) put = put
+behindLast (Done p written) (Restart ack) put = put
+behindLast Closed say put = put
+behindLast Ready say put = put
+behindLast (Begun t) say put = put
+behindLast (Loading p number written) say put = put
+
+abbrev pub writesRepeats : Rule
+writesRepeats phase command payload flash =
+    let d = decideOf phase command payload flash in record { phase = d .phase; say = d .say; put = behindLast phase (d .say) (d .put) }
 
 -- ---- another session
 
