@@ -8,7 +8,7 @@ use native.Mathlib.Omega.{arith}
 use borrow.Author.Tests.{eq-eqb, ne-eqb}
 use lib.Dec.{eqb}
 use lib.ListN.{length}
-use Rattle.octets.specs.Octets.{numberAt, spelled}
+use Rattle.octets.specs.Octets.{numberAt, spelled, partOf}
 use Rattle.octets.specs.OctetsLaws.{little-spelled}
 use Rattle.kinds.specs.Kinds.{numberOf, tokenOf, longestImage}
 use Rattle.kinds.specs.KindsLaws.{FitsFlash, flash-fits, kind-of-number, kind-spelled}
@@ -21,14 +21,19 @@ use Rattle.module_model.specs.Phases.{totalOf, held}
 use Rattle.module_model.specs.PhasesLaws.{Cut, cut-length, facts-loading}
 use Rattle.module_model.specs.Rules.{unmoved, taken, dataIn, kindDecision, parametersDecision, numbersIn, phaseAt}
 use Rattle.module_model.specs.Rules.{packetHead, parametersLength, typeField, lengthField, addressField}
+use Rattle.module_model.specs.Rules.{placeOf, isRepeat, acknowledged}
 use Rattle.module_model.specs.Rules.{firstDecision, loadingDecision, phaseDecision, packetDecision, decideOf}
-use Rattle.module_model.specs.RulesLaws.{formed-yes, cut-yes, packet-yes, first-taken, next-taken}
+use Rattle.module_model.specs.RulesLaws.{formed-yes, cut-yes, PacketOf, packet-yes, first-taken, next-taken, decide-packet}
+use Rattle.module_model.specs.RulesLaws.{packet-formed, repeat-yes, repeat-taken, done-repeat}
+use Rattle.module_model.specs.Outcomes.{Belongs, Expects, first, later, formed-data}
 use Rattle.module_model.specs.declared.phases.Transfer.{Transfer}
 use Rattle.module_model.specs.declared.phases.Pieces.{Pieces}
 use Rattle.module_model.specs.declared.phases.Phase.{Phase}
 use Rattle.module_model.specs.declared.phases.Phase.the-variants.{Begun, Loading, Done}
 use Rattle.module_model.specs.declared.rules.Say.the-variants as say
 use Rattle.module_model.specs.declared.rules.Numbers.{Numbers}
+use Rattle.module_model.specs.declared.rules.Put.{Put}
+use Rattle.module_model.specs.declared.rules.Decision.{Decision}
 
 -- ---- parameters
 
@@ -228,3 +233,66 @@ taken-done p n c last =
     let written : writtenWith p n ≡ p .transfer .length =
     rw (last, offset) (ends-with (p .transfer .length) (p .size) (cut-length p c) (c .some)) in
     rw (eq-eqb (n + 1) (totalOf p) last, written)
+
+-- ---- a packet that belongs
+
+-- It is decided by the phase.
+belongs-decided : (phase : Phase) (p : Pieces) (number : ℕ) (payload flash : List ℕ) (n : ℕ) → Belongs p number payload n
+    → decideOf phase packetCommand payload flash ≡ phaseDecision phase (numbersIn payload) (dataIn payload) flash
+belongs-decided phase p number payload flash n k =
+    decide-packet phase payload flash ∙ packet-formed phase payload flash (formed-data payload (k .form))
+
+-- Its numbers are those of the packet.
+belongs-packet : (p : Pieces) (number : ℕ) (payload : List ℕ) (n : ℕ) → Belongs p number payload n → PacketOf p number (numbersIn payload)
+unfolding numbersIn
+belongs-packet p number payload n k =
+    record { this = k .number-is; total = k .total-is; size = k .form .size-is ∙ k .size-is }
+
+-- A decision confirms a packet, whatever is put and whichever phase follows.
+pub record Confirms (d : Decision) (number : ℕ) : Type 0 where
+  pub phase : Phase
+  pub put : Put
+  pub is : d ≡ acknowledged phase number put
+
+-- The expected packet is confirmed,
+pub expected-confirmed : (phase : Phase) (p : Pieces) (number : ℕ) (payload flash : List ℕ) (n : ℕ) → Expects phase p number
+    → Belongs p number payload n → Confirms (decideOf phase packetCommand payload flash) number
+expected-confirmed phase p number payload flash n (first e one) k =
+    let given = numbersIn payload in
+    let packet = belongs-packet p number payload n k in
+    let size : given .size ≡ p .size =
+    packet .size ∙ ap (sizeAt (p .transfer .length) (p .size)) one ∙ size-first (p .transfer .length) (p .size) (k .cut .some) (k .cut .within) in
+    let cut = cut-yes (p .transfer .length) (given .total) (given .size) (cut-length p (k .cut)) (rw size (k .cut .some))
+    (record { count = packet .total ∙ ap (countOf (p .transfer .length)) (sym size); short = rw size (k .cut .within) }) in
+    let decided = belongs-decided (Begun (p .transfer)) p number payload flash n k in
+    rw (e, one) (record { phase = _; put = _; is = decided ∙ first-taken (p .transfer) given (packet .this ∙ one) cut })
+expected-confirmed phase p number payload flash n (later before written e next) k =
+    let packet : PacketOf p (before + 1) (numbersIn payload) = rw next at (belongs-packet p number payload n k) in
+    let decided = belongs-decided (Loading p before written) p number payload flash n k in
+    rw (e, next)
+    (record {
+      phase = _;
+      put = _;
+      is = decided ∙ next-taken p before written (numbersIn payload) (dataIn payload) flash (packet-yes p (before + 1) (numbersIn payload) packet);
+    })
+
+-- and so is the repeat of the last one, if its bytes are those in the flash.
+pub repeat-confirmed : (p : Pieces) (written : ℕ) (payload flash : List ℕ) (n : ℕ) → Belongs p (totalOf p) payload n
+    → dataIn payload ≡ partOf flash (placeOf p (totalOf p)) (length (dataIn payload))
+    → Confirms (decideOf (Done p written) packetCommand payload flash) (totalOf p)
+repeat-confirmed p written payload flash n k same =
+    let given = numbersIn payload in
+    let bytes = dataIn payload in
+    let again : isRepeat p (totalOf p) given bytes flash ≡ true =
+    repeat-yes p (totalOf p) given bytes flash (record {
+      packet = belongs-packet p (totalOf p) payload n k;
+      same = same ∙ ap (partOf flash (placeOf p (totalOf p))) (sym (k .form .size-is));
+    }) in
+    record {
+      phase = _;
+      put = _;
+      is =
+          belongs-decided (Done p written) p (totalOf p) payload flash n k
+          ∙ done-repeat p written given bytes flash
+          ∙ repeat-taken (Done p written) p (totalOf p) given bytes flash again;
+    }

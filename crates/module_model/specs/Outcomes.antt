@@ -26,7 +26,7 @@ use Rattle.module_model.specs.Rules.{dataIn, unmoved, rateDecision, kind
 use Rattle.module_model.specs.Rules.{restartDecision, numbersIn, wellFormed, notTaken, placeOf, isPacket, acknowledged, taken}
 use Rattle.module_model.specs.Rules.{repeatDecision, firstDecision, loadingDecision, doneDecision, phaseDecision}
 use Rattle.module_model.specs.Rules.{packetDecision, decideOf, packetHead, parametersLength, typeField, lengthField, addressField}
-use Rattle.module_model.specs.RulesLaws.{formed, cut-into, PacketOf, packet-is, repeat-is}
+use Rattle.module_model.specs.RulesLaws.{formed, formed-yes, cut-into, PacketOf, packet-is, repeat-is}
 use Rattle.module_model.specs.declared.phases.Transfer.{Transfer}
 use Rattle.module_model.specs.declared.phases.Pieces.{Pieces}
 use Rattle.module_model.specs.declared.phases.Phase.{Phase}
@@ -47,6 +47,12 @@ Plain (Packet number ack) = (number ≡ 0) × (ack ≡ notUnderstood)
 Plain (Last number state) = ⊥
 Plain (Restart ack) = 1 ≤ ack
 
+-- A payload of the form of a packet: its data are as long as it says.
+pub record Formed (payload : List ℕ) : Type 0 where
+  pub some : 1 ≤ length (dataIn payload)
+  pub most : length (dataIn payload) ≤ largestPacket
+  pub size-is : numbersIn payload .size ≡ length (dataIn payload)
+
 -- A packet of a transfer that fits the flash: number, Total and size are as they should be.
 pub record Belongs (p : Pieces) (number : ℕ) (payload : List ℕ) (flash : ℕ) : Type 0 where
   pub fitting : FitsFlash (p .transfer .kind) (p .transfer .length) flash
@@ -56,6 +62,7 @@ pub record Belongs (p : Pieces) (number : ℕ) (payload : List ℕ) (flash : ℕ
   pub number-is : numberAt 2 payload 2 ≡ number
   pub total-is : numberAt 2 payload 0 ≡ totalOf p
   pub size-is : length (dataIn payload) ≡ sizeAt (p .transfer .length) (p .size) number
+  pub form : Formed payload
 
 -- The phase expects this packet: the first after parameters, or the one behind those accepted.
 pub data Expects (phase : Phase) (p : Pieces) (number : ℕ) : Type 0 where
@@ -121,17 +128,20 @@ module _ (phase : Phase) (command : ℕ) (payload flash : List ℕ) where
 
 -- ---- packets
 
--- A payload of the form of a packet: its data are as long as it says.
-pub record Formed (payload : List ℕ) : Type 0 where
-  pub some : 1 ≤ length (dataIn payload)
-  pub most : length (dataIn payload) ≤ largestPacket
-  pub size-is : numbersIn payload .size ≡ length (dataIn payload)
-
 pub data-formed : (payload : List ℕ) → wellFormed (length payload) (numbersIn payload .size) ≡ true → Formed payload
 data-formed payload h =
     let f = formed (length payload) (numbersIn payload .size) h in
     let data-size : length (dataIn payload) ≡ numbersIn payload .size = length-drop packetHead payload ∙ omega (arith, f .long) in
     record { some = omega (arith, data-size, f .some); most = omega (arith, data-size, f .most); size-is = sym data-size }
+
+pub formed-data : (payload : List ℕ) → Formed payload → wellFormed (length payload) (numbersIn payload .size) ≡ true
+formed-data payload f =
+    let rest : length (dataIn payload) ≡ length payload - packetHead = length-drop packetHead payload in
+    formed-yes (length payload) (numbersIn payload .size) (record {
+      some = omega (arith, f .some, f .size-is);
+      most = omega (arith, f .most, f .size-is);
+      long = omega (arith, f .some, f .size-is, rest);
+    })
 
 -- Two bytes carry a Total.
 total-short : (payload : List ℕ) → Bytes payload → numbersIn payload .total ≤ largestTotal
@@ -151,6 +161,7 @@ belongs p number payload flash fit cut one most form k = record {
   number-is = k .this;
   total-is = k .total;
   size-is = sym (form .size-is) ∙ k .size;
+  form = form;
 }
 
 module _ (command : ℕ) (payload flash : List ℕ) (c : command ≡ packetCommand) (form : Formed payload) where

@@ -11,6 +11,7 @@ use Rattle.octets.specs.Octets.{Bytes, numberAt, laid}
 use Rattle.octets.specs.OctetsLaws.{laid-length, laid-before, laid-behind}
 use Rattle.kinds.specs.Kinds.{baseOf}
 use Rattle.pieces.specs.PiecesLaws.{ends-with}
+use Rattle.commands.specs.Commands.{largestTotal}
 use Rattle.module_model.specs.Phases.{totalOf}
 use Rattle.module_model.specs.PhasesLaws.{cut-length}
 use Rattle.module_model.specs.Rules.{dataIn, placeOf}
@@ -20,7 +21,7 @@ use Rattle.module_promises.specs.Runs.{Given, Exchange, exchange, afterO
 use Rattle.module_promises.specs.Said.{Declares, Turn, quiet, declares, writes, again, turn-of}
 use Rattle.module_promises.specs.Track.{keptAfter, kept-same, Track, Pieced, Tracked, last-ends, piece-within, reached-tracked}
 use Rattle.module_promises.specs.Success.{notice-ends, run-pieced}
-use Rattle.module_promises.specs.Promises.{openedBy, keptBy, NobodyElse, baseBy, baseIn, joined, HoldsImage, SuccessHolds}
+use Rattle.module_promises.specs.Promises.{openedBy, keptBy, NobodyElse, baseBy, baseIn, joined, AcceptedData, HoldsImage, SuccessHolds}
 use Rattle.module_promises.specs.Promises.{InRange, OnlyInRange}
 use Rattle.module_model.specs.declared.phases.Transfer.{Transfer}
 use Rattle.module_model.specs.declared.phases.Pieces.{Pieces}
@@ -48,22 +49,40 @@ kept-last flash x (y ∷ xs) h = kept-last (keptBy flash x) y xs h
 -- ---- the declared range
 
 -- Parameters that declare a transfer name its base.
-base-is : (x : Exchange) (t : Transfer) → Declares x t → baseIn x ≡ baseOf (t .kind)
+pub base-is : (x : Exchange) (t : Transfer) → Declares x t → baseIn x ≡ baseOf (t .kind)
 base-is x t d = ap baseBy (d .kind-is)
 
 -- ---- at success
+
+-- Of a history that has accepted all packets their data are as long as declared.
+accepted-data : (history : List Exchange) (p : Pieces) (payload : List ℕ) (flash : ℕ) (h : Pieced history p (totalOf p))
+    → Belongs p (totalOf p) payload flash → AcceptedData (h .track .parameters) (h .track .since) (numberAt 2 payload 0) (h .pieces)
+accepted-data history p payload flash h k =
+    let r = h .track in
+    let d = r .declared in
+    let n = p .transfer .length in
+    let short : numberAt 2 payload 0 ≤ largestTotal = omega (arith, k .total-is, k .cut .carried) in
+    record {
+      count = r .loaded .count ∙ sym (k .total-is);
+      first = λ y i one most. r .loaded .first y i one (omega (arith, most, short));
+      sizes = λ y m i one most. r .loaded .sizes y m i one (omega (arith, most, short));
+      whole =
+          last-ends p (totalOf p) (h .pieces) (h .ending)
+          ∙ ends-with n (p .size) (cut-length p (k .cut)) (k .cut .some)
+          ∙ sym (d .length-is);
+      inside = rw (base-is (r .parameters) (p .transfer) d, d .length-is) (d .fitting .inside);
+    }
 
 -- Of a history that has accepted all packets and ends with an exchange that was not refused, that one left the image in the flash.
 holds-image : (before : List Exchange) (x : Exchange) (p : Pieces) (payload : List ℕ) (flash : ℕ)
     → (h : Pieced (before ++ (x ∷ [])) p (totalOf p)) → isRefused (x .left .answer) ≡ false → Belongs p (totalOf p) payload flash
     → NobodyElse (h .track .parameters .given .flash) (h .track .since)
-    → HoldsImage (h .track .parameters) (h .track .since) (numberAt 2 payload 0) (x .left .flash)
+    → HoldsImage (h .track .parameters) (h .track .since) (numberAt 2 payload 0) (h .pieces) (x .left .flash)
 holds-image before x p payload flash h taken k nobody =
     let r = h .track in
     let d = r .declared in
     let lent = r .parameters .given .flash in
     let stand = r .loaded .stand nobody in
-    let n = p .transfer .length in
     let here : lastOf (r .parameters) (r .since) ≡ x =
     sym (last-behind x (r .last .before) (r .parameters) (r .since)) ∙ ap (lastOf x) (sym (r .last .split)) ∙ last-behind x before x [] in
     let kept : keptAfter lent (r .since) ≡ x .left .flash =
@@ -71,14 +90,7 @@ holds-image before x p payload flash h taken k nobody =
     ∙ kept-last lent (r .parameters) (r .since) (rw here taken)
     ∙ ap (λ (y : Exchange). y .left .flash) here in
     record {
-      pieces = h .pieces;
-      count = r .loaded .count ∙ sym (k .total-is);
       each = λ y m i one most. stand .each y m i one (omega (arith, most, k .total-is, k .cut .carried));
-      whole =
-          last-ends p (totalOf p) (h .pieces) (h .ending)
-          ∙ ends-with n (p .size) (cut-length p (k .cut)) (k .cut .some)
-          ∙ sym (d .length-is);
-      inside = rw (base-is (r .parameters) (p .transfer) d, d .length-is) (d .fitting .inside);
       image = sym kept ∙ stand .image ∙ ap (λ (b : ℕ). laid lent b (joined (h .pieces))) (sym (base-is (r .parameters) (p .transfer) d));
     }
 
@@ -91,6 +103,8 @@ success-holds o gs g all bytes says =
       parameters = h .track .parameters;
       since = h .track .since;
       last = h .track .last;
+      pieces = h .pieces;
+      accepts = accepted-data _ (e .p) (payloadOf g) (length (g .flash)) h (e .packet .belongs);
       holds =
           holds-image (runOf (openedBy o) gs) (exchange s g) (e .p) (payloadOf g) (length (g .flash)) h (e .packet .not-refused)
           (e .packet .belongs);

@@ -5,18 +5,18 @@ use mathlib.Core.List.{List, [], _∷_, _++_, List·Memᴰ}
 use mathlib.Core.Logic.{_⊎_}
 use mathlib.Core.Path.{_≡_}
 use lib.ListN.{length, getD, take}
-use Rattle.octets.specs.Octets.{Bytes, numberAt, laid}
+use Rattle.octets.specs.Octets.{Bytes, numberAt, partOf, laid}
 use Rattle.refusals.specs.Refusals.{noRoom, wrongLength}
 use Rattle.kinds.specs.Kinds.{kindOf, baseOf}
 use Rattle.kinds.specs.KindsLaws.{FitsFlash}
 use Rattle.kinds.specs.declared.Kind.{Kind}
 use Rattle.kinds.specs.declared.Known.{Known}
 use Rattle.kinds.specs.declared.Known.the-variants.{Is, Unknown}
-use Rattle.pieces.specs.Pieces.{countOf}
+use Rattle.pieces.specs.Pieces.{countOf, sizeAt}
 use Rattle.commands.specs.Commands.{parametersFor, packetFor, largestPacket, largestTotal, parametersCommand, packetCommand}
 use Rattle.commands.specs.Commands.{restartCommand, accepted, parametersReply, packetReply, restartReply, notice}
 use Rattle.module_model.specs.Phases.{longestIdle, closingIdle, isClosed}
-use Rattle.module_model.specs.Rules.{dataIn, typeField, lengthField}
+use Rattle.module_model.specs.Rules.{packetHead, dataIn, typeField, lengthField}
 use Rattle.module_model.specs.Answers.{isRefused}
 use Rattle.module.specs.Session.{session, stepped, openingOf, takes, arises}
 use Rattle.module.specs.Step.{left, smallestReply, stepOf}
@@ -97,17 +97,6 @@ SuccessExactlyOf step =
 abbrev pub SuccessExactly : Type 0
 SuccessExactly = SuccessExactlyOf stepOf
 
--- ---- M2, the flash
-
--- Nobody else writes: from a flash on, each step that is not refused is lent what the step before it left. A refused one may be
--- lent anything.
-abbrev pub keptBy : List ℕ → Exchange → List ℕ
-keptBy flash x = cond (isRefused (x .left .answer)) flash (x .left .flash)
-
-abbrev pub NobodyElse : List ℕ → List Exchange → Type 0
-NobodyElse flash [] = Unit
-NobodyElse flash (x ∷ xs) = (isRefused (x .left .answer) ≡ false → x .given .flash ≡ flash) × NobodyElse (keptBy flash x) xs
-
 -- The range that parameters declare: its base by the type, and its length.
 abbrev pub baseBy : Known → ℕ
 baseBy (Is kind) = baseOf kind
@@ -119,24 +108,111 @@ baseIn parameters = baseBy (kindOf (typeField (payloadOf (parameters .given))))
 abbrev pub lengthIn : Exchange → ℕ
 lengthIn parameters = lengthField (payloadOf (parameters .given))
 
+-- The expected packet since parameters, read off frames and replies: the size s of packet 1 cuts the declared length into Total pieces;
+-- packets 1 to k - 1 have been acknowledged, k has not.
+pub record Expected (parameters : Exchange) (since : List Exchange) (s k : ℕ) : Type 0 where
+  pub size-some : 1 ≤ s
+  pub size-most : s ≤ largestPacket
+  pub size-short : s ≤ lengthIn parameters
+  pub total-most : countOf (lengthIn parameters) s ≤ largestTotal
+  pub some : 1 ≤ k
+  pub most : k ≤ countOf (lengthIn parameters) s
+  pub size-set : (x : Exchange) → List·Memᴰ x since → Says x (packetReply 1 accepted) → length (dataIn (payloadOf (x .given))) ≡ s
+  pub before : (i : ℕ) → 1 ≤ i → i < k → Acknowledged i since
+  pub not-yet : Acknowledged k since → ⊥
+
+-- A 0x05 frame with these numbers; its payload is 6 + PkSize.
+pub record PacketFrame (g : Given) (total number size : ℕ) : Type 0 where
+  pub count : ℕ
+  pub packet : g .event ≡ Frame packetCommand count
+  pub total-field : numberAt 2 (payloadOf g) 0 ≡ total
+  pub number-field : numberAt 2 (payloadOf g) 2 ≡ number
+  pub size-field : numberAt 2 (payloadOf g) 4 ≡ size
+  pub long : length (payloadOf g) ≡ packetHead + size
+
+-- M1, when (When.antt). Given to an open session and not refused, the expected packet is acknowledged, whatever flash is lent; the last
+-- one brings the notice of State 0 too.
+abbrev pub ExpectedSucceedsOf : Step → Type 0
+ExpectedSucceedsOf step =
+    (o : Opening) (gs : List Given) (g : Given) → AllBytes gs → Bytes (g .payload)
+    → let now = afterBy step (openedBy o) gs in
+    let x = exchangeBy step now g in
+    (parameters : Exchange) (since : List Exchange) → LastParameters (runBy step (openedBy o) gs) parameters since → (s k : ℕ)
+    → Expected parameters since s k → PacketFrame g (countOf (lengthIn parameters) s) k (sizeAt (lengthIn parameters) s k)
+    → takes now ≡ true → isRefused (x .left .answer) ≡ false
+    → Says x (packetReply k accepted) × (k ≡ countOf (lengthIn parameters) s → Says x (notice 0))
+
+abbrev pub ExpectedSucceeds : Type 0
+ExpectedSucceeds = ExpectedSucceedsOf stepOf
+
+-- The repeat of the last packet: a 0x05 frame with the payload of one that was acknowledged as the last since the parameters, whose data
+-- still stand in the lent flash, at the end of the declared range.
+pub record RepeatsLast (history : List Exchange) (g : Given) (total : ℕ) : Type 0 where
+  pub parameters : Exchange
+  pub since : List Exchange
+  pub last : LastParameters history parameters since
+  pub former : Exchange
+  pub there : List·Memᴰ former since
+  pub acknowledged : LastPacket former total
+  pub count : ℕ
+  pub packet : g .event ≡ Frame packetCommand count
+  pub same : payloadOf g ≡ payloadOf (former .given)
+  pub stands : let bytes = dataIn (payloadOf g) in
+      bytes ≡ partOf (g .flash) (baseIn parameters + lengthIn parameters - length bytes) (length bytes)
+
+-- M1, when (When.antt). Given to an open session and not refused, the repeat of the last packet brings acknowledgement and notice again.
+abbrev pub RepeatSucceedsOf : Step → Type 0
+RepeatSucceedsOf step =
+    (o : Opening) (gs : List Given) (g : Given) → AllBytes gs → Bytes (g .payload)
+    → let now = afterBy step (openedBy o) gs in
+    let x = exchangeBy step now g in
+    (total : ℕ) → RepeatsLast (runBy step (openedBy o) gs) g total → takes now ≡ true → isRefused (x .left .answer) ≡ false
+    → Says x (packetReply total accepted) × Says x (notice 0)
+
+abbrev pub RepeatSucceeds : Type 0
+RepeatSucceeds = RepeatSucceedsOf stepOf
+
+-- ---- M2, the flash
+
+-- Nobody else writes: from a flash on, each step that is not refused is lent what the step before it left. A refused one may be
+-- lent anything.
+abbrev pub keptBy : List ℕ → Exchange → List ℕ
+keptBy flash x = cond (isRefused (x .left .answer)) flash (x .left .flash)
+
+abbrev pub NobodyElse : List ℕ → List Exchange → Type 0
+NobodyElse flash [] = Unit
+NobodyElse flash (x ∷ xs) = (isRefused (x .left .answer) ≡ false → x .given .flash ≡ flash) × NobodyElse (keptBy flash x) xs
+
 -- Pieces one behind the other.
 abbrev pub joined : List (List ℕ) → List ℕ
 joined [] = []
 joined (d ∷ ds) = d ++ joined ds
 
--- A flash holds packets 1 to Total in order in the declared range, and every other byte is what it was when the parameters were
--- accepted.
-pub record HoldsImage (parameters : Exchange) (since : List Exchange) (total : ℕ) (flash : List ℕ) : Type 0 where
-  -- the data of packets 1 to Total,
-  pub pieces : List (List ℕ)
+-- The first of some exchanges whose reply acknowledges a packet.
+pub record FirstAcknowledged (number : ℕ) (xs : List Exchange) (x : Exchange) : Type 0 where
+  pub before : List Exchange
+  pub after : List Exchange
+  pub split : xs ≡ before ++ (x ∷ after)
+  pub says : Says x (packetReply number accepted)
+  pub none : Acknowledged number before → ⊥
+
+-- The data of packets 1 to Total as they were accepted since the parameters, whoever wrote the flash meanwhile:
+pub record AcceptedData (parameters : Exchange) (since : List Exchange) (total : ℕ) (pieces : List (List ℕ)) : Type 0 where
   pub count : length pieces ≡ total
-  -- those of every packet that was acknowledged, repeats too,
-  pub each : (x : Exchange) → List·Memᴰ x since → (k : ℕ) → 1 ≤ k → k ≤ total → Says x (packetReply k accepted)
+  -- those of the first acknowledgement of each packet; its repeats are as long,
+  pub first : (x : Exchange) (k : ℕ) → 1 ≤ k → k ≤ total → FirstAcknowledged k since x
       → dataIn (payloadOf (x .given)) ≡ getD pieces (k - 1) []
-  -- together as long as declared, in a range that lies within the flash,
+  pub sizes : (x : Exchange) → List·Memᴰ x since → (k : ℕ) → 1 ≤ k → k ≤ total → Says x (packetReply k accepted)
+      → length (dataIn (payloadOf (x .given))) ≡ length (getD pieces (k - 1) [])
+  -- together as long as declared, in a range that lies within the flash.
   pub whole : length (joined pieces) ≡ lengthIn parameters
   pub inside : baseIn parameters + lengthIn parameters ≤ length (parameters .given .flash)
-  -- stand there, over the flash as it was lent with the parameters.
+
+-- A flash holds them in order in the declared range, and every other byte is what it was when the parameters were accepted; every
+-- packet that was acknowledged, repeats too, carried these data.
+pub record HoldsImage (parameters : Exchange) (since : List Exchange) (total : ℕ) (pieces : List (List ℕ)) (flash : List ℕ) : Type 0 where
+  pub each : (x : Exchange) → List·Memᴰ x since → (k : ℕ) → 1 ≤ k → k ≤ total → Says x (packetReply k accepted)
+      → dataIn (payloadOf (x .given)) ≡ getD pieces (k - 1) []
   pub image : flash ≡ laid (parameters .given .flash) (baseIn parameters) (joined pieces)
 
 -- What success says of the flash.
@@ -144,11 +220,13 @@ pub record FlashAtSuccess (history : List Exchange) (x : Exchange) : Type 0 wher
   pub parameters : Exchange
   pub since : List Exchange
   pub last : LastParameters history parameters since
+  pub pieces : List (List ℕ)
+  pub accepts : AcceptedData parameters since (numberAt 2 (payloadOf (x .given)) 0) pieces
   pub holds : NobodyElse (parameters .given .flash) since
-      → HoldsImage parameters since (numberAt 2 (payloadOf (x .given)) 0) (x .left .flash)
+      → HoldsImage parameters since (numberAt 2 (payloadOf (x .given)) 0) pieces (x .left .flash)
 
--- M2 (Flash.antt). At success, where nobody else has written since the parameters, the declared range holds the data of packets 1
--- to Total in order, and every other byte is what it was.
+-- M2 (Flash.antt). At success packets 1 to Total are as long as declared; where nobody else has written since the parameters, the
+-- declared range holds their data in order, and every other byte is what it was.
 abbrev pub SuccessHoldsOf : Step → Type 0
 SuccessHoldsOf step =
     (o : Opening) (gs : List Given) (g : Given) → AllBytes gs → Bytes (g .payload)
@@ -180,10 +258,15 @@ OnlyInRange = OnlyInRangeOf stepOf
 
 -- ---- M3, the clean transfer
 
--- Time events whose milliseconds, counted on from a sum, come to at most 7,000. Their payloads and reply buffers are any.
+-- A reply buffer under 64 bytes is offered, so that the event is refused with 2: it is neither time nor a frame. (Where nobody else
+-- writes, the flash is lent as the last step left it, so none of another length, refused with 3, can come.)
+abbrev pub NoRoom : Offer → Type 0
+NoRoom o = length (o .reply) < smallestReply
+
+-- Events that are refused so, frames too, and time events whose milliseconds, counted on from a sum, come to at most 7,000.
 abbrev pub Pause : ℕ → List Offer → Type 0
 Pause sum [] = sum ≤ longestIdle
-Pause sum (o ∷ os) = (ms : ℕ) × (o .event ≡ Elapsed ms) × Pause (sum + ms) os
+Pause sum (o ∷ os) = (NoRoom o × Pause sum os) ⊎ ((ms : ℕ) × (o .event ≡ Elapsed ms) × Pause (sum + ms) os)
 
 -- A frame is offered with a reply buffer of at least 64 bytes; its payload is the front of the lent slice.
 pub record Frames (command : ℕ) (payload : List ℕ) (o : Offer) : Type 0 where

@@ -26,7 +26,7 @@ use Rattle.module_model.specs.Due.{taken-waits, taken-done}
 use Rattle.module.specs.Session.{session, takes, arises}
 use Rattle.module.specs.SessionLaws.{facts-takes, takes-facts}
 use Rattle.module.specs.Step.{Left, smallestReply, stepOf}
-use Rattle.module_promises.specs.Runs.{Given, Offer, given, nextOf, afterOf, afterBy}
+use Rattle.module_promises.specs.Runs.{Given, Offer, given, nextOf, afterBy}
 use Rattle.module_promises.specs.RunsLaws.{after-append}
 use Rattle.module_promises.specs.Promises.{opened, online, openedBy, Frames, RealEvent, Real, AllReal, Reached, ArisesReached}
 use Rattle.module_promises.specs.Forward.{opened-ready, opened-closed, waiting-takes, frame-taken, counted-takes, time-counted}

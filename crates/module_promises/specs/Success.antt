@@ -31,7 +31,7 @@ notice-ends s g bytes says = go (turn-of s g bytes)
     go (again p number a behind same put) = ends p number a
 
 -- The last packet, acknowledged, brings the notice.
-last-notices : (s : Session) (g : Given) → Bytes (g .payload) → (total : ℕ) → LastPacket (exchange s g) total
+pub last-notices : (s : Session) (g : Given) → Bytes (g .payload) → (total : ℕ) → LastPacket (exchange s g) total
     → Says (exchange s g) (notice 0)
 last-notices s g bytes total last = go (turn-of s g bytes)
   where

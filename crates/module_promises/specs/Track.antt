@@ -3,11 +3,11 @@ use Prim.Native.Nat.{ℕ, _+_, _-_, _≤_, _<_}
 use mathlib.Core.Bool.{false}
 use mathlib.Core.List.{List, [], _∷_, _++_, append-assoc, append-nil, List·Memᴰ, List·Memᴰ·head, List·Memᴰ·not-nil, Memᴰ·append-left}
 use mathlib.Core.List.{Memᴰ·append-right}
-use mathlib.Core.Logic.{inl, inr}
+use mathlib.Core.Logic.{_⊎_, inl, inr}
 use mathlib.Core.Path.{_≡_, refl, sym, ap, _∙_}
 use native.Mathlib.Decide.{decLe}
 use native.Mathlib.Omega.{arith}
-use lib.ListN.{length, getD, length-append, List·getD-append}
+use lib.ListN.{length, getD, drop, length-append, List·getD-append}
 use lib.Seq.{getD-at}
 use Rattle.octets.specs.Octets.{Bytes, partOf, laid}
 use Rattle.octets.specs.OctetsLaws.{laid-next, laid-nothing}
@@ -27,7 +27,8 @@ use Rattle.module_model.specs.Answers.{isRefused}
 use Rattle.module.specs.Session.{openingOf}
 use Rattle.module_promises.specs.Runs.{Given, Exchange, exchange, nextOf, afterOf, afterBy, runOf, runBy, AllBytes, Says, payloadOf}
 use Rattle.module_promises.specs.Said.{Declares, Acknowledges, Turn, quiet, declares, writes, again, heardOf, turn-of}
-use Rattle.module_promises.specs.Promises.{Opening, online, openedBy, LastParameters, Acknowledged, keptBy, NobodyElse, joined}
+use Rattle.module_promises.specs.Promises.{Opening, online, openedBy, LastParameters, Acknowledged, FirstAcknowledged, keptBy, NobodyElse}
+use Rattle.module_promises.specs.Promises.{joined}
 use Rattle.module_model.specs.declared.phases.Transfer.{Transfer}
 use Rattle.module_model.specs.declared.phases.Pieces.{Pieces}
 use Rattle.module_model.specs.declared.phases.Phase.{Phase}
@@ -66,6 +67,40 @@ joined-more : (ds : List (List ℕ)) (d : List ℕ) → joined (ds ++ (d ∷ [])
 joined-more [] d = append-nil d
 joined-more (e ∷ ds) d = ap (λ (l : List ℕ). e ++ l) (joined-more ds d) ∙ sym (append-assoc e (joined ds) d)
 
+-- ---- the first of some
+
+-- One of some exchanges and one more is one of them, or that one, behind all of them.
+split-more : (xs : List Exchange) (x : Exchange) (before : List Exchange) (y : Exchange) (after : List Exchange)
+    → xs ++ (x ∷ []) ≡ before ++ (y ∷ after) → ((rest : List Exchange) × (xs ≡ before ++ (y ∷ rest))) ⊎ ((y ≡ x) × (before ≡ xs))
+split-more [] x [] y after e = inr (sym (ap (λ (l : List Exchange). getD l 0 x) e), refl)
+split-more [] x (b ∷ bs) y after e =
+    let none : 0 ≡ length (bs ++ (y ∷ after)) = ap (λ (l : List Exchange). length (drop 1 l)) e in
+    absurd (omega (arith, none, length-append bs (y ∷ after)))
+split-more (z ∷ zs) x [] y after e =
+    let same : z ≡ y = ap (λ (l : List Exchange). getD l 0 x) e in inl (zs, ap (λ (w : Exchange). w ∷ zs) same)
+split-more (z ∷ zs) x (b ∷ bs) y after e =
+    let same : z ≡ b = ap (λ (l : List Exchange). getD l 0 x) e in
+    go same (split-more zs x bs y after (ap (drop 1) e))
+  where
+    go : z ≡ b → ((rest : List Exchange) × (zs ≡ bs ++ (y ∷ rest))) ⊎ ((y ≡ x) × (bs ≡ zs))
+        → ((rest : List Exchange) × (z ∷ zs ≡ (b ∷ bs) ++ (y ∷ rest))) ⊎ ((y ≡ x) × (b ∷ bs ≡ z ∷ zs))
+    go same (inl r) = inl (r .0, ap (λ (w : Exchange). w ∷ zs) same ∙ ap (λ (l : List Exchange). b ∷ l) (r .1))
+    go same (inr r) = inr (r .0, ap (λ (w : Exchange). w ∷ bs) (sym same) ∙ ap (λ (l : List Exchange). z ∷ l) (r .1))
+
+-- So the first that acknowledges a packet is the first of them, or that one and none of them did.
+first-more : (xs : List Exchange) (x : Exchange) (k : ℕ) (y : Exchange) → FirstAcknowledged k (xs ++ (x ∷ [])) y
+    → FirstAcknowledged k xs y ⊎ ((y ≡ x) × (Acknowledged k xs → ⊥))
+first-more xs x k y f = go (split-more xs x (f .before) y (f .after) (f .split))
+  where
+    go : ((rest : List Exchange) × (xs ≡ f .before ++ (y ∷ rest))) ⊎ ((y ≡ x) × (f .before ≡ xs))
+        → FirstAcknowledged k xs y ⊎ ((y ≡ x) × (Acknowledged k xs → ⊥))
+    go (inl r) = inl (record { before = f .before; after = r .0; split = r .1; says = f .says; none = f .none })
+    go (inr r) = inr (r .0, rw (r .1) at (f .none))
+
+-- It is one of them.
+first-there : (xs : List Exchange) (k : ℕ) (y : Exchange) → FirstAcknowledged k xs y → List·Memᴰ y xs
+first-there xs k y f = rw (f .split) (Memᴰ·append-right (f .before) (List·Memᴰ·head refl))
+
 -- ---- what has been loaded
 
 -- The data of packets stand in the flash from the base on, and those of each acknowledged packet are its piece.
@@ -79,6 +114,10 @@ pub record Loaded (flash : List ℕ) (base : ℕ) (since : List Exchange) (numbe
   pub count : length pieces ≡ number
   pub all : (k : ℕ) → 1 ≤ k → k ≤ number → Acknowledged k since
   pub most : (x : Exchange) → List·Memᴰ x since → (k : ℕ) → k ≤ largestTotal → Says x (packetReply k accepted) → k ≤ number
+  pub first : (x : Exchange) (k : ℕ) → 1 ≤ k → k ≤ largestTotal → FirstAcknowledged k since x
+      → dataIn (payloadOf (x .given)) ≡ getD pieces (k - 1) []
+  pub sizes : (x : Exchange) → List·Memᴰ x since → (k : ℕ) → 1 ≤ k → k ≤ largestTotal → Says x (packetReply k accepted)
+      → length (dataIn (payloadOf (x .given))) ≡ length (getD pieces (k - 1) [])
   pub stand : NobodyElse flash since → Stand flash base since pieces
 
 -- Before packet 1 nothing has been.
@@ -87,6 +126,8 @@ loaded-none flash base = record {
   count = refl;
   all = λ k one most. absurd (omega (arith, one, most));
   most = λ x m. absurd (List·Memᴰ·not-nil m);
+  first = λ x k one short f. absurd (List·Memᴰ·not-nil (first-there [] k x f));
+  sizes = λ x m. absurd (List·Memᴰ·not-nil m);
   stand = λ h. record { image = sym (laid-nothing flash base); each = λ x m. absurd (List·Memᴰ·not-nil m) };
 }
 
@@ -104,6 +145,10 @@ module _ (flash : List ℕ) (base : ℕ) (since : List Exchange) (number : ℕ) 
     former : (k : ℕ) → 1 ≤ k → k ≤ number → getD longer (k - 1) [] ≡ getD pieces (k - 1) []
     new : (k : ℕ) → number < k → k ≤ reached → Says x (packetReply k accepted)
     none : (k : ℕ) → k ≤ largestTotal → Says x (packetReply k accepted) → k ≤ reached
+    fresh : (k : ℕ) → number < k → k ≤ largestTotal → Says x (packetReply k accepted)
+        → dataIn (payloadOf (x .given)) ≡ getD longer (k - 1) []
+    sized : (k : ℕ) → 1 ≤ k → k ≤ largestTotal → Says x (packetReply k accepted)
+        → length (dataIn (payloadOf (x .given))) ≡ length (getD longer (k - 1) [])
     image : keptAfter flash since ≡ laid flash base (joined pieces) → Lent
         → keptBy (keptAfter flash since) x ≡ laid flash base (joined longer)
     own : keptAfter flash since ≡ laid flash base (joined pieces) → Lent → (k : ℕ) → 1 ≤ k → k ≤ largestTotal
@@ -118,6 +163,13 @@ module _ (flash : List ℕ) (base : ℕ) (since : List Exchange) (number : ℕ) 
         each-more (λ (y : Exchange). (k : ℕ) → k ≤ largestTotal → Says y (packetReply k accepted) → k ≤ reached) since x
         (λ y m k short says. omega (arith, l .most y m k short says, a .grows))
         (a .none);
+    first = λ y k one short f. begin-first y k one short f (first-more since x k y f);
+    sizes =
+        each-more
+        (λ (y : Exchange). (k : ℕ) → 1 ≤ k → k ≤ largestTotal → Says y (packetReply k accepted)
+        → length (dataIn (payloadOf (y .given))) ≡ length (getD longer (k - 1) [])) since x
+        (λ y m k one short says. l .sizes y m k one short says ∙ ap length (sym (a .former k one (l .most y m k short says))))
+        (a .sized);
     stand = λ h.
         let n = nobody-more flash since x h in
         let s = l .stand (n .0) in
@@ -138,10 +190,23 @@ module _ (flash : List ℕ) (base : ℕ) (since : List Exchange) (number : ℕ) 
       pick k one most (no new) =
           record { exchange = x; there = Memᴰ·append-right since (List·Memᴰ·head refl); says = a .new k (omega arith) most }
 
+      own-first : (k : ℕ) → 1 ≤ k → k ≤ largestTotal → Says x (packetReply k accepted) → (Acknowledged k since → ⊥) → Dec (k ≤ number)
+          → dataIn (payloadOf (x .given)) ≡ getD longer (k - 1) []
+      own-first k one short says none (yes old) = absurd (none (l .all k one old))
+      own-first k one short says none (no new) = a .fresh k (omega arith) short says
+
+      begin-first : (y : Exchange) (k : ℕ) → 1 ≤ k → k ≤ largestTotal → FirstAcknowledged k (since ++ (x ∷ [])) y
+          → FirstAcknowledged k since y ⊎ ((y ≡ x) × (Acknowledged k since → ⊥)) → dataIn (payloadOf (y .given)) ≡ getD longer (k - 1) []
+      begin-first y k one short f (inl g) =
+          l .first y k one short g ∙ sym (a .former k one (l .most y (first-there since k y g) k short (g .says)))
+      begin-first y k one short f (inr r) =
+          rw (r .0) (own-first k one short (rw (r .0) at (f .says)) (r .1) (decLe k number))
+
   -- It leaves the flash as lent, and acknowledges nothing but the last packet with its own data.
   loaded-same : x .left .flash ≡ x .given .flash
       → ((k : ℕ) → k ≤ largestTotal → Says x (packetReply k accepted)
       → (k ≡ number) × (isRefused (x .left .answer) ≡ false)
+      × (length (dataIn (payloadOf (x .given))) ≡ length (getD pieces (k - 1) []))
       × (x .given .flash ≡ laid flash base (joined pieces) → dataIn (payloadOf (x .given)) ≡ getD pieces (k - 1) []))
       → Loaded flash base (since ++ (x ∷ [])) number pieces
   loaded-same same only = loaded-more number pieces (record {
@@ -150,8 +215,10 @@ module _ (flash : List ℕ) (base : ℕ) (since : List Exchange) (number : ℕ) 
     former = λ k one most. refl;
     new = λ k less most. absurd (omega (arith, less, most));
     none = λ k short says. omega (arith, only k short says .0);
+    fresh = λ k more short says. absurd (omega (arith, more, only k short says .0));
+    sized = λ k one short says. only k short says .2;
     image = λ i lent. kept-same (keptAfter flash since) x same lent ∙ i;
-    own = λ i lent k one short says. let o = only k short says in o .2 (lent (o .1) ∙ i);
+    own = λ i lent k one short says. let o = only k short says in o .3 (lent (o .1) ∙ i);
   })
 
   -- It acknowledges the next packet and lays its data behind the others.
@@ -161,21 +228,27 @@ module _ (flash : List ℕ) (base : ℕ) (since : List Exchange) (number : ℕ) 
       → Loaded flash base (since ++ (x ∷ [])) (number + 1) (pieces ++ (dataIn (payloadOf (x .given)) ∷ []))
   loaded-next said taken room put =
       let bytes = dataIn (payloadOf (x .given)) in
-      let at : length pieces ≡ number + 1 - 1 = omega (arith, l .count) in
       loaded-more (number + 1) (pieces ++ (bytes ∷ [])) (record {
         size = length-append pieces (bytes ∷ []) ∙ omega (arith, l .count);
         grows = omega arith;
         former = λ k one most. List·getD-append pieces (bytes ∷ []) [] (k - 1) (omega (arith, l .count));
         new = λ k less most. let is : k ≡ number + 1 = omega arith in rw is (said .says);
         none = λ k short says. omega (arith, said .only k short says);
+        fresh = λ k more short says. behind k short says;
+        sized = λ k one short says. ap length (behind k short says);
         image = λ i lent.
             cond-no (isRefused (x .left .answer)) (keptAfter flash since) (x .left .flash) taken
             ∙ put
             ∙ ap (λ (f : List ℕ). laid f (base + length (joined pieces)) bytes) (lent taken ∙ i)
             ∙ laid-next flash base (joined pieces) bytes room
             ∙ ap (laid flash base) (sym (joined-more pieces bytes));
-        own = λ i lent k one short says. rw (said .only k short says) (sym (getD-at pieces bytes [] [] (number + 1 - 1) at));
+        own = λ i lent k one short says. behind k short says;
       })
+    where
+      behind : (k : ℕ) → k ≤ largestTotal → Says x (packetReply k accepted)
+          → dataIn (payloadOf (x .given)) ≡ getD (pieces ++ (dataIn (payloadOf (x .given)) ∷ [])) (k - 1) []
+      behind k short says =
+          rw (said .only k short says) (sym (getD-at pieces (dataIn (payloadOf (x .given))) [] [] (number + 1 - 1) (omega (arith, l .count))))
 
 -- ---- what a history has accepted
 
@@ -250,17 +323,28 @@ last-ends p number pieces e =
     ∙ length-append (joined (e .earlier)) (e .final)
     ∙ omega (arith, e .before, e .size)
 
+-- Every packet that some exchanges acknowledged belongs to a transfer.
+abbrev pub AllBelong : List Exchange → Pieces → Type 0
+AllBelong xs p =
+    (x : Exchange) → List·Memᴰ x xs → (k : ℕ) → 1 ≤ k → k ≤ largestTotal → Says x (packetReply k accepted)
+    → Belongs p k (payloadOf (x .given)) (length (x .given .flash))
+
 -- A history has accepted packets 1 to number of a transfer.
 pub record Pieced (history : List Exchange) (p : Pieces) (number : ℕ) : Type 0 where
   pub pieces : List (List ℕ)
   pub one : 1 ≤ number
   pub track : Track history (p .transfer) number pieces
   pub ending : LastPiece p number pieces
+  pub belong : AllBelong (track .since) p
+
+-- No exchange of a history accepts parameters.
+abbrev pub NoParameters : List Exchange → Type 0
+NoParameters history = (x : Exchange) → List·Memᴰ x history → Says x (parametersReply largestPacket accepted) → ⊥
 
 -- What a history has accepted, by the phase that it has led to.
 abbrev pub Tracked : List Exchange → Phase → Type 0
 Tracked history Closed = Unit
-Tracked history Ready = Unit
+Tracked history Ready = NoParameters history
 Tracked history (Begun t) = Track history t 0 []
 Tracked history (Loading p number written) = Pieced history p number
 Tracked history (Done p written) = Pieced history p (totalOf p)
@@ -278,20 +362,32 @@ pieced-accepted history phase p number (done e last) h = rw e (rw last at h)
 
 -- ---- each step
 
+-- One exchange more.
+belong-more : (p : Pieces) (xs : List Exchange) (x : Exchange) → AllBelong xs p
+    → ((k : ℕ) → 1 ≤ k → k ≤ largestTotal → Says x (packetReply k accepted) → Belongs p k (payloadOf (x .given)) (length (x .given .flash)))
+    → AllBelong (xs ++ (x ∷ [])) p
+belong-more p xs x former own =
+    each-more
+    (λ (y : Exchange). (k : ℕ) → 1 ≤ k → k ≤ largestTotal → Says y (packetReply k accepted)
+    → Belongs p k (payloadOf (y .given)) (length (y .given .flash))) xs x former own
+
 -- An exchange that accepts nothing changes nothing, in any phase.
 pieced-quiet : (history : List Exchange) (p : Pieces) (number : ℕ) (x : Exchange) → Pieced history p number → Quiet (heardOf x)
     → x .left .flash ≡ x .given .flash → Pieced (history ++ (x ∷ [])) p number
+unfolding track-quiet track-more
 pieced-quiet history p number x h q same = record {
   pieces = h .pieces;
   one = h .one;
   track = track-quiet history (p .transfer) number (h .pieces) x (h .track) q same;
   ending = h .ending;
+  belong = belong-more p (h .track .since) x (h .belong) (λ k one short says. absurd (q .no-packet k says));
 }
 
 tracked-quiet : (history : List Exchange) (phase : Phase) (x : Exchange) → Tracked history phase → Quiet (heardOf x)
     → x .left .flash ≡ x .given .flash → Tracked (history ++ (x ∷ [])) phase
 tracked-quiet history Closed x h q same = tt
-tracked-quiet history Ready x h q same = tt
+tracked-quiet history Ready x h q same =
+    each-more (λ (y : Exchange). Says y (parametersReply largestPacket accepted) → ⊥) history x h (q .no-parameters largestPacket)
 tracked-quiet history (Begun t) x h q same = track-quiet history t 0 [] x h q same
 tracked-quiet history (Loading p number written) x h q same = pieced-quiet history p number x h q same
 tracked-quiet history (Done p written) x h q same = pieced-quiet history p (totalOf p) x h q same
@@ -316,12 +412,18 @@ module _ (history : List Exchange) (s : Session) (g : Given) (p : Pieces) where
   abbrev base : ℕ
   base = baseOf (p .transfer .kind)
 
+  -- The packet that it acknowledges belongs to the transfer.
+  own-belongs : (number : ℕ) → Acknowledges s g p number → (k : ℕ) → 1 ≤ k → k ≤ largestTotal
+      → Says (exchange s g) (packetReply k accepted) → Belongs p k (payloadOf g) (length (g .flash))
+  own-belongs number a k one short says = rw (a .said .only k short says) (a .belongs)
+
   -- The expected packet, written behind the pieces before it.
-  pieced-next : (number : ℕ) (pieces : List (List ℕ)) → Track history (p .transfer) number pieces
-      → length (joined pieces) ≡ offsetOf (p .size) (number + 1) → Acknowledges s g p (number + 1)
+  pieced-next : (number : ℕ) (pieces : List (List ℕ)) (r : Track history (p .transfer) number pieces)
+      → AllBelong (r .since) p → length (joined pieces) ≡ offsetOf (p .size) (number + 1) → Acknowledges s g p (number + 1)
       → exchange s g .left .flash ≡ laid (g .flash) (placeOf p (number + 1)) carried
       → Pieced (history ++ (exchange s g ∷ [])) p (number + 1)
-  pieced-next number pieces r before a put =
+  unfolding track-more
+  pieced-next number pieces r former before a put =
       let x = exchange s g in
       let k = a .belongs in
       let room : base + length (joined pieces) + length carried ≤ length (r .parameters .given .flash) =
@@ -334,22 +436,40 @@ module _ (history : List Exchange) (s : Session) (g : Given) (p : Pieces) where
             (loaded-next _ _ (r .since) number pieces (r .loaded) x (a .said) (a .not-refused) room
             (put ∙ ap (λ (n : ℕ). laid (g .flash) (base + n) carried) (sym before)));
         ending = record { earlier = pieces; final = carried; split = refl; before = before; size = k .size-is };
+        belong = belong-more p (r .since) x former (own-belongs (number + 1) a);
       }
 
   -- The last accepted packet once more: its bytes are the last piece.
   pieced-again : (number : ℕ) → Pieced history p number → Acknowledges s g p number
       → carried ≡ partOf (g .flash) (placeOf p number) (length carried) → exchange s g .left .flash ≡ g .flash
       → Pieced (history ++ (exchange s g ∷ [])) p number
+  unfolding track-more
   pieced-again number h a same put = record {
     pieces = h .pieces;
     one = h .one;
     track =
         track-more history (p .transfer) number (h .pieces) (h .track) (exchange s g) (a .said .no-parameters largestPacket) number (h .pieces)
         (loaded-same _ _ (h .track .since) number (h .pieces) (h .track .loaded) (exchange s g) put
-        (λ k short says. let is = a .said .only k short says in (is, a .not-refused, λ lent. rw is (own lent))));
+        (λ k short says. let is = a .said .only k short says in (is, a .not-refused, rw is sized, λ lent. rw is (own lent))));
     ending = h .ending;
+    belong = belong-more p (h .track .since) (exchange s g) (h .belong) (own-belongs number a);
   }
     where
+      -- Where the last piece stands among the pieces.
+      at : length (h .ending .earlier) ≡ number - 1
+      at =
+          let e = h .ending in
+          omega (arith, h .track .loaded .count, ap length (e .split), length-append (e .earlier) (e .final ∷ []))
+
+      final-is : h .ending .final ≡ getD (h .pieces) (number - 1) []
+      final-is =
+          let e = h .ending in
+          sym (getD-at (e .earlier) (e .final) [] [] (number - 1) at)
+          ∙ ap (λ (ds : List (List ℕ)). getD ds (number - 1) []) (sym (e .split))
+
+      sized : length carried ≡ length (getD (h .pieces) (number - 1) [])
+      sized = a .belongs .size-is ∙ sym (h .ending .size) ∙ ap length final-is
+
       own : g .flash ≡ laid (h .track .parameters .given .flash) base (joined (h .pieces)) → carried ≡ getD (h .pieces) (number - 1) []
       own lent =
           let e = h .ending in
@@ -357,8 +477,6 @@ module _ (history : List Exchange) (s : Session) (g : Given) (p : Pieces) where
           let r = h .track in
           let flash = r .parameters .given .flash in
           let size : length carried ≡ length (e .final) = k .size-is ∙ sym (e .size) in
-          let at : length (e .earlier) ≡ number - 1 =
-          omega (arith, r .loaded .count, ap length (e .split), length-append (e .earlier) (e .final ∷ [])) in
           let room : base + length (joined (e .earlier)) + length (e .final) ≤ length flash =
           omega (arith, e .before, e .size, piece-room p number (payloadOf g) (length (g .flash)) k (r .parameters) (r .declared)) in
           let there : g .flash ≡ laid flash base (joined (e .earlier) ++ e .final) =
@@ -370,15 +488,14 @@ module _ (history : List Exchange) (s : Session) (g : Given) (p : Pieces) where
           ∙ ap (partOf (g .flash) (base + length (joined (e .earlier)))) size
           ∙ ap (λ (f : List ℕ). partOf f (base + length (joined (e .earlier))) (length (e .final))) there
           ∙ part-behind flash base (joined (e .earlier)) (e .final) room
-          ∙ sym (getD-at (e .earlier) (e .final) [] [] (number - 1) at)
-          ∙ ap (λ (ds : List (List ℕ)). getD ds (number - 1) []) (sym (e .split))
+          ∙ final-is
 
   -- The expected packet, after parameters or behind those accepted.
   pieced-writes : (number : ℕ) → Tracked history (s .phase) → Expects (s .phase) p number → Acknowledges s g p number
       → exchange s g .left .flash ≡ laid (g .flash) (placeOf p number) carried → Pieced (history ++ (exchange s g ∷ [])) p number
   pieced-writes number h (first e one) a put =
       let begun : Track history (p .transfer) 0 [] = rw e at h in
-      rw one (pieced-next 0 [] begun (omega arith) (rw one at a) (rw one at put))
+      rw one (pieced-next 0 [] begun (λ x m k some short says. absurd (omega (arith, some, begun .loaded .most x m k short says))) (omega arith) (rw one at a) (rw one at put))
   pieced-writes number h (later before written e next) a put =
       let r : Pieced history p before = rw e at h in
       let size = p .size in
@@ -386,7 +503,7 @@ module _ (history : List Exchange) (s : Session) (g : Given) (p : Pieces) where
       let k = a .belongs in
       let seam : length (joined (r .pieces)) ≡ offsetOf size (before + 1) =
       last-ends p before (r .pieces) (r .ending) ∙ next-offset n size before (r .one) (omega (arith, k .most, next)) in
-      rw next (pieced-next before (r .pieces) (r .track) seam (rw next at a) (rw next at put))
+      rw next (pieced-next before (r .pieces) (r .track) (r .belong) seam (rw next at a) (rw next at put))
 
 -- The phase by another name.
 moved : (history : List Exchange) (phase next : Phase) → next ≡ phase → Tracked history phase → Tracked history next
@@ -423,7 +540,7 @@ run-tracked history s (g ∷ gs) bytes h =
 opening-tracked : (o : Opening) → Tracked [] (openedBy o .phase)
 unfolding openingOf
 opening-tracked (online flash) =
-    either-way (λ (r : Stepped). Tracked [] (r .session .phase)) (openable (length flash)) (λ o. tt) (λ o. tt)
+    either-way (λ (r : Stepped). Tracked [] (r .session .phase)) (openable (length flash)) (λ o x m. absurd (List·Memᴰ·not-nil m)) (λ o. tt)
 
 -- Every run from an opening.
 pub reached-tracked : (o : Opening) (gs : List Given) → AllBytes gs

@@ -1,22 +1,19 @@
 -- Wrong steps and openings, each a small variation of ours, and a promise that it breaks.
-use Prim.Native.Nat.{ℕ, _<_}
+use Prim.Native.Nat.{ℕ}
 use mathlib.Core.Bool.{true, cond, false≢true}
 use mathlib.Core.List.{List, [], _∷_}
 use mathlib.Core.Path.{_≡_, refl, ap}
 use native.Mathlib.Omega.{arith}
-use lib.Dec.{eqb, ltb}
+use lib.Dec.{ltb}
 use lib.ListN.{length}
 use Rattle.refusals.specs.Refusals.{noRoom, wrongLength}
-use Rattle.module_model.specs.Answers.{refusalIn}
 use Rattle.module_model.specs.Phases.{openable, alive, closedArises}
 use Rattle.module.specs.Session.{session, stepped, openingOf, takes, arises}
 use Rattle.module.specs.Step.{Left, left, smallestReply, stepOf}
-use Rattle.module.specs.StepLaws.{step-no-room}
 use Rattle.module_promises.specs.Runs.{Step, Given}
 use Rattle.module_promises.specs.Promises.{online, RefusedLeavesOf}
 use Rattle.module_promises.specs.Arises.{opening-arises}
 use Rattle.module_model.specs.declared.phases.Phase.the-variants.{Closed, Ready}
-use Rattle.module_model.specs.declared.events.Event.{Event}
 use Rattle.module_model.specs.declared.events.Event.the-variants.{Elapsed}
 use Rattle.module_model.specs.declared.events.Answer.the-variants.{Refused}
 use Rattle.module.specs.declared.session.Session.{Session}
@@ -40,28 +37,6 @@ roomless = record { event = Elapsed 1; payload = []; flash = 0 ∷ []; reply = [
 pub resets-refused-refuted : RefusedLeavesOf resetsRefused → ⊥
 resets-refused-refuted promise =
     let same : _≡_ {A = ℕ} 0 5 = ap (λ (l : Left). l .session .idle) (promise waited roomless noRoom refl) in
-    omega (arith, same)
-
--- ---- 2 comes before 3
-
--- A reply buffer that is too small is refused with 2, whatever flash is lent; it holds of ours.
-abbrev pub NoRoomFirstOf : Step → Type 0
-NoRoomFirstOf step =
-    (s : Session) (e : Event) (payload flash reply : List ℕ) → length reply < smallestReply
-    → step s e payload flash reply ≡ left (stepped s (Refused noRoom)) flash reply
-
-pub no-room-first-of : NoRoomFirstOf stepOf
-no-room-first-of = step-no-room
-
--- Our step, but the flash's length is tested first.
-abbrev pub testsLengthFirst : Step
-testsLengthFirst s e payload flash reply =
-    cond (eqb (length flash) (s .flash)) (stepOf s e payload flash reply) (left (stepped s (Refused wrongLength)) flash reply)
-
-pub tests-length-first-refuted : NoRoomFirstOf testsLengthFirst → ⊥
-tests-length-first-refuted promise =
-    let same : _≡_ {A = ℕ} wrongLength noRoom =
-    ap (λ (l : Left). refusalIn (l .answer)) (promise waited (Elapsed 1) [] [] [] (omega arith)) in
     omega (arith, same)
 
 -- ---- an opening that arises

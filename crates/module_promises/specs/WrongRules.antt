@@ -1,101 +1,197 @@
--- Wrong steps against the promises over the idle sum, the refusals and what moves a transfer.
-use Prim.Native.Nat.{ℕ, _+_}
-use mathlib.Core.Bool.{cond, false≢true}
-use mathlib.Core.List.{List, [], _∷_, List·Memᴰ, List·Memᴰ·not-nil}
-use mathlib.Core.Path.{_≡_, refl, ap}
-use native.Mathlib.Omega.{arith}
+-- Our step with another rule for frames, and such rules, each a small variation of ours; what is heard of such a step.
+use Prim.Native.Nat.{ℕ, _+_, _-_}
+use mathlib.Core.Bool.{cond, _&&_}
+use mathlib.Core.List.{List}
+use mathlib.Core.Path.{_≡_, refl}
 use lib.Dec.{eqb, ltb}
-use lib.ListN.{length}
+use lib.ListN.{length, take}
 use Rattle.refusals.specs.Refusals.{noRoom, wrongLength}
-use Rattle.wire.specs.Frame as wire
-use Rattle.module_model.specs.Answers.{refusalIn}
-use Rattle.module_model.specs.Phases.{alive, openable}
-use Rattle.module.specs.Session.{session, stepped, openingOf, takes}
-use Rattle.module.specs.Step.{left, smallestReply, stepOf}
-use Rattle.module_promises.specs.Runs.{Step, Given, afterBy, runBy, heardIn}
-use Rattle.module_promises.specs.RunsLaws.{heard-nothing}
-use Rattle.module_promises.specs.Tiny.{zeros64}
-use Rattle.module_promises.specs.Promises.{online, IdleCountsOf, RefusedExactlyOf, Moves, stays, begins, goes-on, closes, OnlyMovesOf}
-use Rattle.kinds.specs.declared.Kind.the-variants.{Upgrade}
+use Rattle.kinds.specs.Kinds.{baseOf, tokenOf}
+use Rattle.commands.specs.Commands.{packetCommand, accepted}
+use Rattle.module_model.specs.Phases.{totalOf}
+use Rattle.module_model.specs.Rules.{notTaken, dataIn, numbersIn, placeOf, isPacket, acknowledged, loadingDecision, decideOf}
+use Rattle.module.specs.Session.{stepped, takes}
+use Rattle.module.specs.Step.{Left, left, performed, timeStep, smallestReply, frameStep, stepOf}
+use Rattle.module_promises.specs.Runs.{Step}
 use Rattle.module_model.specs.declared.phases.Phase.{Phase}
 use Rattle.module_model.specs.declared.phases.Phase.the-variants.{Closed, Ready, Begun, Loading, Done}
+use Rattle.module_model.specs.declared.events.Event.{Event}
 use Rattle.module_model.specs.declared.events.Event.the-variants.{Frame, Elapsed}
-use Rattle.module_model.specs.declared.events.Answer.the-variants.{Nothing, Refused}
+use Rattle.module_model.specs.declared.events.Answer.the-variants.{Refused}
+use Rattle.module_model.specs.declared.events.Answer.the-variants as answer
+use Rattle.module_model.specs.declared.rules.Say.{Say}
+use Rattle.module_model.specs.declared.rules.Say.the-variants.{Nothing, Rate, Parameters, Packet, Last, Restart}
+use Rattle.module_model.specs.declared.rules.Numbers.{Numbers}
+use Rattle.module_model.specs.declared.rules.Put.{Put}
+use Rattle.module_model.specs.declared.rules.Put.the-variants.{Nowhere, At}
+use Rattle.module_model.specs.declared.rules.Decision.{Decision}
 use Rattle.module.specs.declared.session.Session.{Session}
 
--- ---- time that is refused is counted
+-- ---- a step by a rule
 
-abbrev pub countsRefusedTime : Step
-countsRefusedTime s (Frame command count) payload flash reply = stepOf s (Frame command count) payload flash reply
-countsRefusedTime s (Elapsed ms) payload flash reply =
-    cond (ltb (length reply) smallestReply) (left (stepped (session (s .flash) (s .idle + ms) (s .phase)) (Refused noRoom)) flash reply)
-    (stepOf s (Elapsed ms) payload flash reply)
+-- What a frame given to an open session does, by its phase, the command, the payload and the flash.
+abbrev pub Rule : Type 0
+Rule = Phase → ℕ → List ℕ → List ℕ → Decision
 
--- Five milliseconds, over a flash of one byte, without room for a reply.
-abbrev unheard : Given
-unheard = record { event = Elapsed 5; payload = []; flash = 0 ∷ []; reply = [] }
+abbrev eventBy : Rule → Step
+eventBy rule s (Frame command count) payload flash reply =
+    performed s (rule (s .phase) command (take count payload) flash) (take count payload) flash reply
+eventBy rule s (Elapsed ms) payload flash reply = left (timeStep s ms) flash reply
 
-pub counts-refused-time-refuted : IdleCountsOf countsRefusedTime → ⊥
-unfolding afterBy runBy openingOf openable takes alive
-counts-refused-time-refuted promise =
-    let same : _≡_ {A = ℕ} 5 0 = promise (online (0 ∷ [])) (unheard ∷ []) refl in
-    omega (arith, same)
+-- Our step with this rule.
+abbrev pub stepBy : Rule → Step
+stepBy rule s e payload flash reply =
+    cond (ltb (length reply) smallestReply) (left (stepped s (Refused noRoom)) flash reply)
+    (cond (eqb (length flash) (s .flash))
+    (cond (takes s) (eventBy rule s e payload flash reply) (left (stepped s answer.Nothing) flash reply))
+    (left (stepped s (Refused wrongLength)) flash reply))
 
--- ---- 3 before 2, and a flash of any length
+-- With our rule it is our step.
+pub step-ours : (s : Session) (e : Event) (payload flash reply : List ℕ)
+    → stepBy decideOf s e payload flash reply ≡ stepOf s e payload flash reply
+unfolding stepOf frameStep
+step-ours s (Frame command count) payload flash reply = refl
+step-ours s (Elapsed ms) payload flash reply = refl
 
-abbrev pub threeFirst : Step
-threeFirst s e payload flash reply =
-    cond (eqb (length flash) (s .flash)) (stepOf s e payload flash reply) (left (stepped s (Refused wrongLength)) flash reply)
+-- ---- wrong rules
 
-abbrev ready : Session
-ready = session 1 0 Ready
+-- Every packet is refused.
+abbrev pub refusesAll : Rule
+refusesAll phase command payload flash = cond (eqb command packetCommand) (notTaken phase) (decideOf phase command payload flash)
 
-abbrev flashless : List ℕ → Given
-flashless reply = record { event = Elapsed 5; payload = []; flash = []; reply = reply }
+-- When done, every packet is refused, repeats too.
+abbrev doneRefuses : Phase → ℕ → Decision → Decision
+doneRefuses Closed command d = d
+doneRefuses Ready command d = d
+doneRefuses (Begun t) command d = d
+doneRefuses (Loading p number written) command d = d
+doneRefuses (Done p written) command d = cond (eqb command packetCommand) (notTaken (Done p written)) d
 
-pub three-first-refuted : RefusedExactlyOf threeFirst → ⊥
-three-first-refuted promise =
-    let same : _≡_ {A = ℕ} wrongLength noRoom = ap refusalIn (promise ready (flashless []) .two-when (omega arith)) in
-    omega (arith, same)
+abbrev pub refusesRepeats : Rule
+refusesRepeats phase command payload flash = doneRefuses phase command (decideOf phase command payload flash)
 
-abbrev pub takesAnyFlash : Step
-takesAnyFlash s e payload flash reply = stepOf (session (length flash) (s .idle) (s .phase)) e payload flash reply
+-- The transfer is done with the last packet but one.
+abbrev endsEarly : Phase → Decision → Decision
+endsEarly Closed d = d
+endsEarly Ready d = d
+endsEarly (Begun t) d = d
+endsEarly (Loading p number written) d =
+    cond (eqb (number + 1) (totalOf p)) (record { phase = Done p written; say = Last number 0; put = d .put }) d
+endsEarly (Done p written) d = d
 
-pub takes-any-flash-refuted : RefusedExactlyOf takesAnyFlash → ⊥
-unfolding stepOf takes alive openable
-takes-any-flash-refuted promise =
-    let same : _≡_ {A = ℕ} 0 wrongLength =
-    ap refusalIn (promise ready (flashless zeros64) .three-when (omega arith) (λ e. omega (arith, e))) in
-    omega (arith, same)
+abbrev pub saysEarly : Rule
+saysEarly phase command payload flash = let d = decideOf phase command payload flash in endsEarly (d .phase) d
 
--- ---- a transfer forgotten in a pause
+-- Nothing is written.
+abbrev pub writesNothing : Rule
+writesNothing phase command payload flash =
+    let d = decideOf phase command payload flash in record { phase = d .phase; say = d .say; put = Nowhere }
 
-abbrev pub forgetsInPause : Step
-forgetsInPause s (Frame command count) payload flash reply = stepOf s (Frame command count) payload flash reply
-forgetsInPause s (Elapsed ms) payload flash reply = left (stepped (session (s .flash) (s .idle + ms) Ready) Nothing) flash reply
+-- Packet 1 is written, the others are merely acknowledged.
+abbrev firstPut : Phase → Put → Put
+firstPut Closed put = Nowhere
+firstPut Ready put = Nowhere
+firstPut (Begun t) put = put
+firstPut (Loading p number written) put = Nowhere
+firstPut (Done p written) put = Nowhere
 
-abbrev begun : Session
-begun = session 4 0 (Begun (record { kind = Upgrade; length = 4 }))
+abbrev pub writesFirst : Rule
+writesFirst phase command payload flash =
+    let d = decideOf phase command payload flash in record { phase = d .phase; say = d .say; put = firstPut phase (d .put) }
 
-abbrev pausing : Given
-pausing = record { event = Elapsed 5; payload = []; flash = 0 ∷ 0 ∷ 0 ∷ 0 ∷ []; reply = zeros64 }
+-- Data are written one place further on.
+abbrev oneOn : Put → Put
+oneOn Nowhere = Nowhere
+oneOn (At place) = At (place + 1)
 
--- Whether a transfer has begun.
-abbrev hasBegun : Phase → ℕ
-hasBegun Closed = 0
-hasBegun Ready = 0
-hasBegun (Begun t) = 1
-hasBegun (Loading p number written) = 0
-hasBegun (Done p written) = 0
+abbrev pub writesOneOn : Rule
+writesOneOn phase command payload flash =
+    let d = decideOf phase command payload flash in record { phase = d .phase; say = d .say; put = oneOn (d .put) }
 
-pub forgets-in-pause-refuted : OnlyMovesOf forgetsInPause → ⊥
-forgets-in-pause-refuted promise = go (promise begun pausing tt)
-  where
-    unsaid : (f : wire.Frame) → List·Memᴰ f (heardIn []) → ⊥
-    unsaid f m = List·Memᴰ·not-nil (rw heard-nothing at m)
+-- When done, a repeat is acknowledged whatever its bytes are.
+abbrev uncompared : Phase → ℕ → List ℕ → Decision → Decision
+uncompared Closed command payload d = d
+uncompared Ready command payload d = d
+uncompared (Begun t) command payload d = d
+uncompared (Loading p number written) command payload d = d
+uncompared (Done p written) command payload d =
+    cond (eqb command packetCommand && isPacket p (totalOf p) (numbersIn payload)) (acknowledged (Done p written) (totalOf p) Nowhere) d
 
-    go : Moves forgetsInPause begun pausing → ⊥
-    go (stays e) = let same : _≡_ {A = ℕ} 0 1 = ap hasBegun e in omega (arith, same)
-    go (begins m) = unsaid _ m
-    go (goes-on k one m) = unsaid _ m
-    go (closes e) = false≢true e
+abbrev pub comparesNothing : Rule
+comparesNothing phase command payload flash = uncompared phase command payload (decideOf phase command payload flash)
+
+-- While loading, the Total of a packet is not compared.
+abbrev anyTotal : Phase → ℕ → List ℕ → List ℕ → Decision → Decision
+anyTotal Closed command payload flash d = d
+anyTotal Ready command payload flash d = d
+anyTotal (Begun t) command payload flash d = d
+anyTotal (Loading p number written) command payload flash d =
+    let given = numbersIn payload in
+    cond (eqb command packetCommand)
+    (loadingDecision p number written (record { total = totalOf p; number = given .number; size = given .size }) (dataIn payload) flash) d
+anyTotal (Done p written) command payload flash d = d
+
+abbrev pub comparesNoTotal : Rule
+comparesNoTotal phase command payload flash = anyTotal phase command payload flash (decideOf phase command payload flash)
+
+-- A packet whose number is its Total ends the transfer, whichever came before it.
+abbrev lastAtOnce : Phase → ℕ → Numbers → Decision → Decision
+lastAtOnce Closed command given d = d
+lastAtOnce Ready command given d = d
+lastAtOnce (Begun t) command given d =
+    cond (eqb command packetCommand && eqb (given .number) (given .total))
+    (acknowledged (Done (record { transfer = t; size = given .size }) (t .length)) (given .number) Nowhere) d
+lastAtOnce (Loading p number written) command given d = d
+lastAtOnce (Done p written) command given d = d
+
+abbrev pub skipsPackets : Rule
+skipsPackets phase command payload flash = lastAtOnce phase command (numbersIn payload) (decideOf phase command payload flash)
+
+-- The last packet is acknowledged, and no notice follows.
+abbrev unnoticed : Say → Say
+unnoticed Nothing = Nothing
+unnoticed (Rate rate ack) = Rate rate ack
+unnoticed (Parameters ack) = Parameters ack
+unnoticed (Packet number ack) = Packet number ack
+unnoticed (Last number state) = Packet number accepted
+unnoticed (Restart ack) = Restart ack
+
+abbrev pub saysNoNotice : Rule
+saysNoNotice phase command payload flash =
+    let d = decideOf phase command payload flash in record { phase = d .phase; say = unnoticed (d .say); put = d .put }
+
+-- Data are written at the address that the parameters carry, so 0 for type 1.
+abbrev atAddress : Phase → Put → Put
+atAddress (Begun t) (At place) = At (place - baseOf (t .kind) + tokenOf (t .kind))
+atAddress (Begun t) Nowhere = Nowhere
+atAddress Closed put = put
+atAddress Ready put = put
+atAddress (Loading p number written) put = put
+atAddress (Done p written) put = put
+
+abbrev pub writesAtAddress : Rule
+writesAtAddress phase command payload flash =
+    let d = decideOf phase command payload flash in record { phase = d .phase; say = d .say; put = atAddress phase (d .put) }
+
+-- When done, a repeat is written as new data behind the last packet.
+abbrev behindLast : Phase → Say → Put → Put
+behindLast (Done p written) (Last number state) put = At (placeOf p (number + 1))
+behindLast (Done p written) Nothing put = put
+behindLast (Done p written) (Rate rate ack) put = put
+behindLast (Done p written) (Parameters ack) put = put
+behindLast (Done p written) (Packet number ack) put = put
+behindLast (Done p written) (Restart ack) put = put
+behindLast Closed say put = put
+behindLast Ready say put = put
+behindLast (Begun t) say put = put
+behindLast (Loading p number written) say put = put
+
+abbrev pub writesRepeats : Rule
+writesRepeats phase command payload flash =
+    let d = decideOf phase command payload flash in record { phase = d .phase; say = d .say; put = behindLast phase (d .say) (d .put) }
+
+-- ---- another session
+
+-- What a step leaves, with another session.
+abbrev pub leaving : Session → Left → Left
+leaving s l = record { session = s; answer = l .answer; flash = l .flash; reply = l .reply }
