@@ -1,19 +1,19 @@
--- What an answer of a session says.
+-- What each case of an answer says, in numbers.
 use Prim.Native.Nat.{ℕ}
+use Rattle.refusals.specs.Written.{bytesWritten}
 use Rattle.host_model.specs.declared.events.Answer.{Answer}
 use Rattle.host_model.specs.declared.events.Answer.the-variants.{Nothing, Sent, Done, Refused, Failed}
 
--- Its number: a refusal's own; for the others what is given for nothing, for a message sent and for done.
-abbrev pub numberBy : ℕ → ℕ → ℕ → Answer → ℕ
-numberBy nothing sent done Nothing = nothing
-numberBy nothing sent done (Sent n) = sent
-numberBy nothing sent done Done = done
-numberBy nothing sent done (Refused number) = number
-numberBy nothing sent done (Failed number passed n) = number
+-- Its number: a refusal has document 01's; what is no refusal has none there, and is numbered as C is given it, nothing 0.
+abbrev pub loadDone : ℕ
+loadDone = 103
 
--- The refusal number, 0 for none.
-abbrev pub refusalIn : Answer → ℕ
-refusalIn a = numberBy 0 0 0 a
+abbrev pub numberIn : Answer → ℕ
+numberIn Nothing = 0
+numberIn (Sent n) = bytesWritten
+numberIn Done = loadDone
+numberIn (Refused number) = number
+numberIn (Failed number passed n) = number
 
 -- The module's byte that is passed on.
 abbrev pub passedIn : Answer → ℕ

@@ -10,7 +10,7 @@ use Rattle.kinds.specs.Kinds.{kindOf, numberOf}
 use Rattle.kinds.specs.declared.Kind.{Kind}
 use Rattle.kinds.specs.declared.Known.{Known}
 use Rattle.kinds.specs.declared.Known.the-variants.{Is, Unknown}
-use Rattle.flat.specs.Answers.{nothing, written, done, unknown}
+use Rattle.flat.specs.Answers.{unknown}
 use Rattle.flat.specs.Words.{lowHalf, highHalf, recorded, standsFor}
 use Rattle.host_model.specs.Stages.{numberOfRate}
 use Rattle.host_model.specs.declared.plan.Rate.{Rate}
@@ -25,7 +25,7 @@ use Rattle.host_model.specs.declared.plan.Stage.the-variants.{Text, Asking, Dec
 use Rattle.host.specs.Session.{session, stepped, arises}
 use Rattle.host_model.specs.Waits.{wait}
 use Rattle.host.specs.Step.{Left, left, Wishes, stepOf, endedOf, openingOf}
-use Rattle.host_model.specs.Events.{numberBy, passedIn, countIn}
+use Rattle.host_model.specs.Events.{numberIn, passedIn, countIn}
 use Rattle.host_model.specs.declared.waits.Wait.{Wait}
 use Rattle.host_model.specs.declared.waits.Phase.{Phase}
 use Rattle.host_model.specs.declared.waits.Phase.the-variants.{Ended, EndedAt, Waiting}
@@ -147,12 +147,9 @@ keptOf st s = cond (stands st) (recorded (wordsOf s) st) st
 
 -- ---- answers by number
 
--- Nothing 0, sent 100, done 103, a refusal its own number.
-abbrev pub answerNumber : Answer → ℕ
-answerNumber a = numberBy nothing written done a
-
+-- The numbers of an answer.
 abbrev pub toldOf : Answer → Told
-toldOf a = record { number = answerNumber a; count = countIn a; passed = passedIn a }
+toldOf a = record { number = numberIn a; count = countIn a; passed = passedIn a }
 
 -- ---- what a call leaves
 
@@ -170,7 +167,7 @@ kept answer count passed state output =
 
 -- What a step of the session leaves, with the bytes that then keep it.
 abbrev pub keptAs : Left → List ℕ → Kept
-keptAs l state = kept (answerNumber (l .answer)) (countIn (l .answer)) (passedIn (l .answer)) state (l .output)
+keptAs l state = kept (numberIn (l .answer)) (countIn (l .answer)) (passedIn (l .answer)) state (l .output)
 
 -- An event: the session's own step, from the session kept to the one kept after it.
 unfoldable pub keptStep : List ℕ → Event → List ℕ → List ℕ → List ℕ → Kept
@@ -189,7 +186,7 @@ opened answer count state output = record { answer = answer; count = count; stat
 
 -- A session opened over some bytes: its answer, and its record.
 abbrev pub openedAs : Left → List ℕ → Opened
-openedAs l st = opened (answerNumber (l .answer)) (countIn (l .answer)) (recorded (wordsOf (l .session)) st) (l .output)
+openedAs l st = opened (numberIn (l .answer)) (countIn (l .answer)) (recorded (wordsOf (l .session)) st) (l .output)
 
 -- A rate is 1 to 5, start and same are 0 or 1.
 unfoldable pub wishesKnown : ℕ → ℕ → ℕ → Bool

@@ -10,13 +10,14 @@ use Rattle.octets.specs.Octets.{sameBytes, partOf}
 use Rattle.flat.specs.Words.{spelledAll, recorded, standsFor}
 use Rattle.flat.specs.WordsLaws.{length-spelled-all}
 use Rattle.flat.specs.Found.{recorded-alone}
+use Rattle.module_model.specs.Answers.{numberIn}
 use Rattle.module.specs.Session.{openingOf}
 use Rattle.module_model.specs.declared.phases.Phase.{Phase}
 use Rattle.module_model.specs.declared.phases.Phase.the-variants.{Closed, Ready, Begun, Loading, Done}
 use Rattle.module.specs.declared.session.Session.{Session}
 use Rattle.module.specs.declared.session.Stepped.{Stepped}
 use Rattle.kept_module.specs.Record.{recordWords, recordBytes}
-use Rattle.kept_module.specs.Kept.{wordsBy, wordsOf, fieldsIn, stands, sessionBy, sessionIn, answerNumber, opened, keptOpening}
+use Rattle.kept_module.specs.Kept.{wordsBy, wordsOf, fieldsIn, stands, sessionBy, sessionIn, opened, keptOpening}
 
 -- How many words a record has,
 pub words-count : (s : Session) → length (wordsOf s) ≡ recordWords
@@ -48,7 +49,7 @@ session-by st fields s genuine f g e = rw (e, g, f)
 
 -- An opening.
 pub opening-by : (st flash after ws : List ℕ) (first : Stepped) (number : ℕ) → recordBytes ≤ length st → first ≡ openingOf flash
-    → ws ≡ wordsOf (first .session) → after ≡ recorded ws st → number ≡ answerNumber (first .answer)
+    → ws ≡ wordsOf (first .session) → after ≡ recorded ws st → number ≡ numberIn (first .answer)
     → opened number after ≡ keptOpening st flash
 unfolding keptOpening
 opening-by st flash after ws first number room e w k n =

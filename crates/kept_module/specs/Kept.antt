@@ -13,7 +13,7 @@ use Rattle.kinds.specs.declared.Known.{Known}
 use Rattle.kinds.specs.declared.Known.the-variants.{Is, Unknown}
 use Rattle.module.specs.Session.{session, openingOf}
 use Rattle.module.specs.Step.{Left, stepOf}
-use Rattle.module_model.specs.Answers.{countIn}
+use Rattle.module_model.specs.Answers.{numberIn, countIn}
 use Rattle.module_model.specs.declared.phases.Transfer.{Transfer}
 use Rattle.module_model.specs.declared.phases.Pieces.{Pieces}
 use Rattle.module_model.specs.declared.phases.Phase.{Phase}
@@ -22,7 +22,6 @@ use Rattle.module.specs.declared.session.Session.{Session}
 use Rattle.module_model.specs.declared.events.Event.{Event}
 use Rattle.module_model.specs.declared.events.Answer.{Answer}
 use Rattle.module_model.specs.declared.events.Answer.the-variants.{Nothing, Sent, Refused}
-use Rattle.flat.specs.Answers.{nothing, written}
 use Rattle.flat.specs.Words.{recorded, standsFor, lowHalf, highHalf}
 use Rattle.kept_module.specs.Record.{flashPlace, idlePlace, phasePlace, typePlace, lengthPlace, sizePlace, numberPlace, writtenPlace, recordBytes}
 use Rattle.kept_module.specs.Record.{closedPhase, readyPhase, begunPhase, loadingPhase, donePhase}
@@ -95,12 +94,6 @@ sessionIn st = sessionBy (stands st) (fieldsIn st)
 unfoldable pub keptOf : List ℕ → Session → List ℕ
 keptOf st s = cond (stands st) (recorded (wordsOf s) st) st
 
--- What an answer says as a number: nothing, written, or the refusal itself.
-abbrev pub answerNumber : Answer → ℕ
-answerNumber Nothing = nothing
-answerNumber (Sent n) = written
-answerNumber (Refused k) = k
-
 -- All that a call leaves.
 pub record Kept : Type 0 where
   pub answer : ℕ
@@ -114,7 +107,7 @@ kept answer count state flash reply = record { answer = answer; count = count; s
 
 -- What a step leaves, with the session in these bytes.
 abbrev pub keptAs : List ℕ → Left → Kept
-keptAs st l = kept (answerNumber (l .answer)) (countIn (l .answer)) st (l .flash) (l .reply)
+keptAs st l = kept (numberIn (l .answer)) (countIn (l .answer)) st (l .flash) (l .reply)
 
 -- One event given to the session in some bytes.
 unfoldable pub keptStep : List ℕ → Event → List ℕ → List ℕ → List ℕ → Kept
@@ -133,4 +126,4 @@ opened answer state = record { answer = answer; state = state }
 unfoldable pub keptOpening : List ℕ → List ℕ → Opened
 keptOpening st flash =
     cond (ltb (length st) recordBytes) (opened noRoom st)
-    (opened (answerNumber (openingOf flash .answer)) (recorded (wordsOf (openingOf flash .session)) st))
+    (opened (numberIn (openingOf flash .answer)) (recorded (wordsOf (openingOf flash .session)) st))

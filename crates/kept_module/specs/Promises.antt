@@ -6,12 +6,13 @@ use mathlib.Core.Path.{_≡_}
 use lib.ListN.{length}
 use Rattle.flat.specs.Words.{recorded}
 use Rattle.flat.specs.Calls.{callsBy, bytesBy}
+use Rattle.module_model.specs.Answers.{numberIn}
 use Rattle.module.specs.Session.{openingOf, arises}
 use Rattle.module_promises.specs.Runs.{Given, Exchange, afterOf, runOf, AllBytes}
 use Rattle.module_promises.specs.Promises.{opened}
 use Rattle.module.specs.declared.session.Session.{Session}
 use Rattle.kept_module.specs.Record.{recordBytes}
-use Rattle.kept_module.specs.Kept.{wordsOf, stands, sessionIn, answerNumber, Kept, keptAs, keptStep, keptOpening}
+use Rattle.kept_module.specs.Kept.{wordsOf, stands, sessionIn, Kept, keptAs, keptStep, keptOpening}
 
 -- KeptLaws.antt. The record of any session that can arise, over a flash whose length fits eight bytes, stands in any buffer with room
 -- for it and is read there as that session.
@@ -39,7 +40,7 @@ told st x = keptAs (recorded (wordsOf (x .left .session)) st) (x .left)
 -- A run of calls from an opening is the session's own run: the opening answers the same, each call leaves just what the session's own
 -- step leaves, and the bytes at the end are the record of the session after the run.
 pub record SameRun (st flash : List ℕ) (gs : List Given) : Type 0 where
-  pub opening-answer : keptOpening st flash .answer ≡ answerNumber (openingOf flash .answer)
+  pub opening-answer : keptOpening st flash .answer ≡ numberIn (openingOf flash .answer)
   pub each : callsOf (keptOpening st flash .state) gs ≡ map (told st) (runOf (opened flash) gs)
   pub bytes : bytesAfter (keptOpening st flash .state) gs ≡ recorded (wordsOf (afterOf (opened flash) gs)) st
 

@@ -3,8 +3,8 @@ ghost use mathlib.Core.Path.{_≡_};
 ghost use mathlib.Core.List.{[]};
 ghost use lib.ListN.{length};
 ghost use Rattle.module.specs.Session.{takes};
-ghost use Rattle.module_model.specs.Answers.{countIn};
-ghost use Rattle.kept_module.specs.Kept.{sessionIn, answerNumber, opened, keptOpening, kept, keptStep};
+ghost use Rattle.module_model.specs.Answers.{numberIn, countIn};
+ghost use Rattle.kept_module.specs.Kept.{sessionIn, opened, keptOpening, kept, keptStep};
 use crate::reading::fields_in;
 use crate::reading::session_of;
 use crate::record;
@@ -88,7 +88,7 @@ fn step(
 
 // An answer as a number, and the bytes that it sends.
 fn number_of(answer: Answer) -> u8
-    ensures { λ r. ⌜ r ≡ answerNumber answer ⌝ }
+    ensures { λ r. ⌜ r ≡ numberIn answer ⌝ }
 {
     match answer {
         Answer::Nothing => flat::NOTHING,

@@ -8,11 +8,9 @@ use Rattle.octets.specs.Octets.{numberAt, partOf, over}
 use Rattle.refusals.specs.Refusals.{noRoom}
 use Rattle.wire.specs.Frame.{longestContent}
 use Rattle.flat.specs.Words.{spelledAll, lowHalf}
-use Rattle.flat.specs.Answers.{nothing, frame, dropped}
-use Rattle.reader.specs.Reader.{fresh, stepOf}
+use Rattle.flat.specs.Answers.{nothing}
+use Rattle.reader.specs.Reader.{fresh, stepOf, numberIn, commandIn, countIn}
 use Rattle.reader.specs.declared.steps.Reader.{Reader}
-use Rattle.reader.specs.declared.steps.Heard.{Heard}
-use Rattle.reader.specs.declared.steps.Heard.the-variants.{Nothing, Frame, Dropped}
 use Rattle.reader.specs.declared.steps.Stepped.{Stepped}
 
 -- Where each number of the record stands, and how long the record is. Whatever is added comes last.
@@ -59,22 +57,6 @@ readerIn state =
     })
     fresh
 
--- What was heard, by number.
-abbrev pub heardNumber : Heard → ℕ
-heardNumber Nothing = nothing
-heardNumber (Frame command n) = frame
-heardNumber Dropped = dropped
-
-abbrev pub heardCommand : Heard → ℕ
-heardCommand Nothing = 0
-heardCommand (Frame command n) = command
-heardCommand Dropped = 0
-
-abbrev pub heardCount : Heard → ℕ
-heardCount Nothing = 0
-heardCount (Frame command n) = n
-heardCount Dropped = 0
-
 -- What a fresh start answers and leaves.
 pub record Begun : Type 0 where
   pub answer : ℕ
@@ -95,9 +77,9 @@ pub record Kept : Type 0 where
 abbrev pub keptAfter : Stepped → List ℕ → Kept
 keptAfter s state =
     record {
-      answer = heardNumber (s .heard);
-      command = heardCommand (s .heard);
-      count = heardCount (s .heard);
+      answer = numberIn (s .heard);
+      command = commandIn (s .heard);
+      count = countIn (s .heard);
       state = over (bytesOf (s .reader)) state;
     }
 

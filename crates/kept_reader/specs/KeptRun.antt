@@ -16,12 +16,12 @@ use Rattle.flat.specs.Words.{spelledAll, lowHalf}
 use Rattle.flat.specs.WordsLaws.{length-spelled-all}
 use Rattle.flat.specs.Calls.{callsBy}
 use Rattle.flat.specs.Found.{ReadAt, read-all}
-use Rattle.reader.specs.Reader.{stepOf, payloadIn}
+use Rattle.reader.specs.Reader.{stepOf, payloadIn, numberIn, commandIn, countIn}
 use Rattle.reader_promises.specs.SeenLaws.{fresh-known, step-known}
 use Rattle.reader.specs.declared.steps.Reader.{Reader}
 use Rattle.reader.specs.declared.steps.Stepped.{Stepped}
 use Rattle.kept_reader.specs.Kept.{readerBytes, storePlace, payloadPlace, flag, bytesOf, stands, readerIn}
-use Rattle.kept_reader.specs.Kept.{heardNumber, heardCommand, heardCount, Kept, keptNew, keptAfter, keptStep}
+use Rattle.kept_reader.specs.Kept.{Kept, keptNew, keptAfter, keptStep}
 use Rattle.kept_reader.specs.Promises.{Whole, KeptFresh, KeptBack, KeptPayload, stepsOf, callsOf, KeptRun}
 
 -- A flag is 0 or 1, and is read as it was.
@@ -116,9 +116,9 @@ one-call r state b w room =
     ∙ ap (λ (x : Reader). keptAfter (stepOf x b) (over (bytesOf r) state)) (kept-back r state w room)
     ∙ ap
     (λ (l : List ℕ). record {
-      answer = heardNumber (stepOf r b .heard);
-      command = heardCommand (stepOf r b .heard);
-      count = heardCount (stepOf r b .heard);
+      answer = numberIn (stepOf r b .heard);
+      command = commandIn (stepOf r b .heard);
+      count = countIn (stepOf r b .heard);
       state = l;
     })
     (over-over (bytesOf r) (bytesOf (stepOf r b .reader)) state (rw (bytes-long r state w room, bytes-long (stepOf r b .reader) state next room) (omega arith)))

@@ -5,7 +5,7 @@ ghost use Prim.Native.Nat.{_≤_, _<_};
 ghost use lib.ListN.{length};
 ghost use Rattle.octets.specs.Octets.{partOf, over};
 ghost use Rattle.wire.specs.Frame.{longestContent};
-ghost use Rattle.reader.specs.Reader.{fresh};
+ghost use Rattle.reader.specs.Reader.{fresh, numberIn, commandIn, countIn};
 ghost use Rattle.kept_reader.specs.Kept.{
   readerBytes,
   storePlace,
@@ -13,9 +13,6 @@ ghost use Rattle.kept_reader.specs.Kept.{
   readerIn,
   bytesOf,
   flag,
-  heardNumber,
-  heardCommand,
-  heardCount,
   keptNew,
   keptStep,
 };
@@ -126,7 +123,7 @@ fn flag_of(set: bool) -> u32
 }
 
 fn number_of(heard: Heard) -> u8
-    ensures { λ r. ⌜ r ≡ heardNumber heard ⌝ }
+    ensures { λ r. ⌜ r ≡ numberIn heard ⌝ }
 {
     match heard {
         Heard::Nothing => flat::NOTHING,
@@ -136,7 +133,7 @@ fn number_of(heard: Heard) -> u8
 }
 
 fn command_of(heard: Heard) -> u8
-    ensures { λ r. ⌜ r ≡ heardCommand heard ⌝ }
+    ensures { λ r. ⌜ r ≡ commandIn heard ⌝ }
 {
     match heard {
         Heard::Nothing => 0,
@@ -146,7 +143,7 @@ fn command_of(heard: Heard) -> u8
 }
 
 fn count_of(heard: Heard) -> usize
-    ensures { λ r. ⌜ r ≡ heardCount heard ⌝ }
+    ensures { λ r. ⌜ r ≡ countIn heard ⌝ }
 {
     match heard {
         Heard::Nothing => 0,

@@ -11,7 +11,7 @@ use lib.ListN.{length}
 use Rattle.octets.specs.Choice.{either-way}
 use Rattle.refusals.specs.Refusals.{noRoom, wrongLength}
 use Rattle.module_model.specs.Rules.{framesOf, decideOf}
-use Rattle.module_model.specs.Answers.{refusalIn, isRefused}
+use Rattle.module_model.specs.Answers.{numberIn, isRefused}
 use Rattle.module.specs.Session.{takes}
 use Rattle.module.specs.Step.{Left, eventStep, frameStep, smallestReply, stepOf}
 use Rattle.module_promises.specs.Runs.{Given, exchange}
@@ -48,7 +48,7 @@ way-of s g =
 
 -- Two numbers that are refused alike are one.
 same-number : (n m : ℕ) → Refused n ≡ Refused m → n ≡ m
-same-number n m e = ap refusalIn e
+same-number n m e = ap numberIn e
 
 -- What is not refused is not refused with a number.
 never : (a : Answer) (n : ℕ) → isRefused a ≡ false → a ≡ Refused n → ⊥

@@ -8,7 +8,7 @@ use lib.Dec.{eqb, ltb}
 use lib.ListN.{length}
 use Rattle.refusals.specs.Refusals.{noRoom, wrongLength}
 use Rattle.wire.specs.Frame as wire
-use Rattle.module_model.specs.Answers.{refusalIn}
+use Rattle.module_model.specs.Answers.{numberIn}
 use Rattle.module_model.specs.Phases.{alive, openable}
 use Rattle.module.specs.Session.{session, stepped, openingOf, takes}
 use Rattle.module.specs.Step.{left, smallestReply, stepOf}
@@ -55,7 +55,7 @@ flashless reply = record { event = Elapsed 5; payload = []; flash = []; reply = 
 
 pub tests-length-first-refuted : RefusedExactlyOf testsLengthFirst → ⊥
 tests-length-first-refuted promise =
-    let same : _≡_ {A = ℕ} wrongLength noRoom = ap refusalIn (promise ready (flashless []) .two-when (omega arith)) in
+    let same : _≡_ {A = ℕ} wrongLength noRoom = ap numberIn (promise ready (flashless []) .two-when (omega arith)) in
     omega (arith, same)
 
 abbrev pub takesAnyFlash : Step
@@ -65,7 +65,7 @@ pub takes-any-flash-refuted : RefusedExactlyOf takesAnyFlash → ⊥
 unfolding stepOf takes alive openable
 takes-any-flash-refuted promise =
     let same : _≡_ {A = ℕ} 0 wrongLength =
-    ap refusalIn (promise ready (flashless zeros64) .three-when (omega arith) (λ e. omega (arith, e))) in
+    ap numberIn (promise ready (flashless zeros64) .three-when (omega arith) (λ e. omega (arith, e))) in
     omega (arith, same)
 
 -- ---- a transfer forgotten in a pause

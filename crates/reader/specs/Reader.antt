@@ -82,6 +82,28 @@ framesIn Dropped r = []
 abbrev pub framesOf : Stepped → List Frame
 framesOf s = framesIn (s .heard) (s .reader)
 
+-- What each case says in numbers: its own, none of which document 01 has, as C is given it, nothing 0; the frame's command and count.
+abbrev pub frameHeard : ℕ
+frameHeard = 101
+
+abbrev pub frameDropped : ℕ
+frameDropped = 102
+
+abbrev pub numberIn : Heard → ℕ
+numberIn Nothing = 0
+numberIn (Whole command n) = frameHeard
+numberIn Dropped = frameDropped
+
+abbrev pub commandIn : Heard → ℕ
+commandIn Nothing = 0
+commandIn (Whole command n) = command
+commandIn Dropped = 0
+
+abbrev pub countIn : Heard → ℕ
+countIn Nothing = 0
+countIn (Whole command n) = n
+countIn Dropped = 0
+
 -- Whether an answer says dropped.
 abbrev pub droppedIn : Heard → Bool
 droppedIn Nothing = false

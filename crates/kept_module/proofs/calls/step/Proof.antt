@@ -6,10 +6,10 @@ use mathlib.Core.List.{List}
 use mathlib.Core.Path.{_≡_}
 use Rattle.flat.specs.Words.{recorded, standsFor}
 use Rattle.module.specs.Step.{Left, stepOf}
-use Rattle.module_model.specs.Answers.{countIn}
+use Rattle.module_model.specs.Answers.{numberIn, countIn}
 use Rattle.module.specs.declared.session.Session.{Session}
 use Rattle.module_model.specs.declared.events.Event.{Event}
-use Rattle.kept_module.specs.Kept.{wordsOf, fieldsIn, stands, sessionBy, sessionIn, keptOf, answerNumber, kept, keptStep}
+use Rattle.kept_module.specs.Kept.{wordsOf, fieldsIn, stands, sessionBy, sessionIn, keptOf, kept, keptStep}
 use Rattle.kept_module.proofs.calls.step.Statement.{statement}
 use Rattle.kept_module.proofs.calls.step.Tie as tie
 
@@ -17,7 +17,7 @@ use Rattle.kept_module.proofs.calls.step.Tie as tie
 step-by : (st payload flash reply after : List ℕ) (event : Event) (fields s : Session) (genuine : Bool) (l : Left) (number count : ℕ)
     → fields ≡ fieldsIn st → genuine ≡ standsFor (wordsOf fields) st → s ≡ sessionBy genuine fields
     → l ≡ stepOf s event payload flash reply → after ≡ cond genuine (recorded (wordsOf (l .session)) st) st
-    → number ≡ answerNumber (l .answer) → count ≡ countIn (l .answer)
+    → number ≡ numberIn (l .answer) → count ≡ countIn (l .answer)
     → kept number count after (l .flash) (l .reply) ≡ keptStep st event payload flash reply
 unfolding keptStep sessionIn keptOf stands
 step-by st payload flash reply after event fields s genuine l number count f g e step k n m = rw (k, n, m, step, e, g, f)
