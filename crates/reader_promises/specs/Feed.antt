@@ -5,8 +5,10 @@ use mathlib.Core.List.{List, [], _∷_, _++_, map, append-nil}
 use mathlib.Core.Path.{_≡_, refl, ap, _∙_}
 use native.Mathlib.Omega.{arith}
 use borrow.Author.Tests.{lt-ltb}
+use lib.Dec.{ltb}
 use lib.ListN.{length, length-append}
 use lib.Seq.{append-snoc}
+use Rattle.octets.specs.Choice.{cond-yes}
 use Rattle.wire.specs.Escape.{escapeMark, tailMark, isMark, secondOf, mayFollow, originalOf, escapeOf, escaped}
 use Rattle.wire.specs.EscapeLaws.{mark-not-head, mark-not-escape, mark-not-tail, second-follows, original-second, follow-not-mark}
 use Rattle.wire.specs.EscapeLaws.{escape-mark, escape-plain}
@@ -18,11 +20,6 @@ use Rattle.reader_promises.specs.Seen.{contentSight, followSight, tailSi
 use Rattle.reader_promises.specs.SeenLaws.{handed-append, after-append, handed-head}
 
 -- ---- one byte
-
--- A content byte that fits is taken.
-content-fits : (c : List ℕ) (b : ℕ) → length c < longestContent → contentSight c b ≡ quiet (within false (c ++ (b ∷ [])))
-unfolding contentSight
-content-fits c b l = rw (lt-ltb (length c) longestContent l)
 
 -- A byte that is no mark is a content byte.
 plain-sight : (c : List ℕ) (b : ℕ) → isMark b ≡ false → sightOf (within false c) b ≡ contentSight c b
@@ -80,10 +77,11 @@ silent-append s t u xs ys p q = record {
 -- The wire form of a content byte brings that byte.
 byte-silent : (c : List ℕ) (b : ℕ) → length c < longestContent
     → Silent (within false c) (escapeOf b) (within false (c ++ (b ∷ [])))
+unfolding contentSight
 byte-silent c b l = go (isMark b) refl
   where
     taken : (s : Seen) (a : ℕ) → sightOf s a ≡ contentSight c b → Silent s (a ∷ []) (within false (c ++ (b ∷ [])))
-    taken s a e = silent-cons s _ _ a [] (e ∙ content-fits c b l) (silent-nil (within false (c ++ (b ∷ []))))
+    taken s a e = silent-cons s _ _ a [] (e ∙ cond-yes (ltb (length c) longestContent) _ _ (lt-ltb (length c) longestContent l)) (silent-nil (within false (c ++ (b ∷ []))))
 
     go : (m : Bool) → isMark b ≡ m → Silent (within false c) (escapeOf b) (within false (c ++ (b ∷ [])))
     go true m =

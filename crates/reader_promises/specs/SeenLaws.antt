@@ -37,10 +37,10 @@ pub record Known (r : Reader) : Type 0 where
   pub low : r .count ≤ longestContent
 
 -- A step is seen as this: the reader after it is known, and it is the view's step.
-pub record SeenAs (step : Stepped) (sight : Sight) : Type 0 where
-  pub known : Known (step .reader)
-  pub after : seenIn (step .reader) ≡ sight .seen
-  pub handed : framesOf step ≡ sight .frames
+record SeenAs (step : Stepped) (sight : Sight) : Type 0 where
+  known : Known (step .reader)
+  after : seenIn (step .reader) ≡ sight .seen
+  handed : framesOf step ≡ sight .frames
 
 -- ---- one step
 
@@ -178,12 +178,12 @@ pub step-size : (r : Reader) → Made r → (b : ℕ) → Made (stepOf r b .read
 step-size r a b = step-known r a b .size
 
 -- The view of the reader after a step is the view's step.
-pub step-seen : (r : Reader) → Made r → (b : ℕ) → seenOf (stepOf r b .reader) ≡ seenStep (seenOf r) b
+step-seen : (r : Reader) → Made r → (b : ℕ) → seenOf (stepOf r b .reader) ≡ seenStep (seenOf r) b
 unfolding seenOf
 step-seen r a b = ap seenIn (known-same (stepOf r b .reader) (any-seen r a b .known)) ∙ any-seen r a b .after
 
 -- The frames that a step hands out are those of the view's step.
-pub step-frames : (r : Reader) → Made r → (b : ℕ) → framesOf (stepOf r b) ≡ seenFrames (seenOf r) b
+step-frames : (r : Reader) → Made r → (b : ℕ) → framesOf (stepOf r b) ≡ seenFrames (seenOf r) b
 step-frames r a b = any-seen r a b .handed
 
 -- ---- runs

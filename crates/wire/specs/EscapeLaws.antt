@@ -115,7 +115,7 @@ unfolding escaped
 escaped-snoc xs b = escaped-append xs (b ∷ []) ∙ rw append-nil
 
 -- A content byte takes one byte or two on the wire, so content at most doubles.
-pub escape-size : (b : ℕ) → length (escapeOf b) ≤ 2
+escape-size : (b : ℕ) → length (escapeOf b) ≤ 2
 unfolding escapeOf
 escape-size b = either-way (λ (l : List ℕ). length l ≤ 2) (isMark b) (λ e. omega arith) (λ e. omega arith)
 

@@ -48,11 +48,11 @@ begun content i = headMark ∷ escaped (take i content)
 pub escaped-more : (s : List ℕ) (i : ℕ) → i < length s → escaped (take (i + 1) s) ≡ escaped (take i s) ++ escapeOf (getD s i 0)
 escaped-more s i h = rw (add-one, take-suc s i 0) (escaped-snoc (take i s) (getD s i 0))
 
-pub begun-more : (s : List ℕ) (i : ℕ) → i < length s → begun s (i + 1) ≡ begun s i ++ escapeOf (getD s i 0)
+begun-more : (s : List ℕ) (i : ℕ) → i < length s → begun s (i + 1) ≡ begun s i ++ escapeOf (getD s i 0)
 begun-more s i h = ap (λ (l : List ℕ). headMark ∷ l) (escaped-more s i h)
 
 -- The first bytes take no more than all of them.
-pub escaped-prefix : (s : List ℕ) (i : ℕ) → length (escaped (take i s)) ≤ length (escaped s)
+escaped-prefix : (s : List ℕ) (i : ℕ) → length (escaped (take i s)) ≤ length (escaped s)
 escaped-prefix s i =
     let whole : escaped s ≡ escaped (take i s) ++ escaped (drop i s) =
     ap escaped (sym (take-append-drop i s)) ∙ escaped-append (take i s) (drop i s) in
@@ -70,7 +70,7 @@ unfolding wireOf
 wire-most f = omega (arith, wire-size (contentOf f), escaped-size (contentOf f), length-content f)
 
 -- With the tail behind all content bytes, the wire form stands there.
-pub begun-all : (s : List ℕ) (i : ℕ) → length s ≤ i → begun s i ++ (tailMark ∷ []) ≡ wireForm s
+begun-all : (s : List ℕ) (i : ℕ) → length s ≤ i → begun s i ++ (tailMark ∷ []) ≡ wireForm s
 unfolding wireForm
 begun-all s i h = rw (take-all i s h)
 

@@ -4,7 +4,7 @@ ghost use Prim.Native.Nat.{_+_, _≤_};
 ghost use lib.ListN.{length, take};
 ghost use Rattle.wire.specs.Frame.{longestPayload, longestContent, frame, contentOf, verdictOf, isContent};
 
-pub const DEVICE: u8 = 0x01;
+const DEVICE: u8 = 0x01;
 
 pub const PAYLOAD_MOST: usize = 1030;
 
