@@ -2,7 +2,7 @@
 use Prim.Native.Nat.{ℕ, _≤_, _<_}
 use mathlib.Core.Bool.{Bool, true, false, cond, false≢true}
 use mathlib.Core.List.{List}
-use mathlib.Core.Path.{_≡_, refl, sym, ap, ap₂, _∙_}
+use mathlib.Core.Path.{_≡_, refl, sym, ap, _∙_}
 use native.Mathlib.Omega.{arith}
 use borrow.Author.Tests.{eq-eqb, ne-eqb, lt-ltb, le-ltb}
 use lib.Dec.{ltb}
@@ -14,10 +14,9 @@ use Rattle.refusals.specs.Written.{Out, refused, written, bytesWritten, numberI
 use Rattle.refusals.specs.declared.Written.{Written}
 use Rattle.refusals.specs.declared.Written.the-variants as writes
 use Rattle.host.specs.Session.{stepped, arises, takenPhase}
-use Rattle.host_model.specs.Waits.{waitFits, phaseArises}
-use Rattle.host_model.specs.Nexts.{eventNext}
+use Rattle.host_model.specs.Waits.{waitFits}
 use Rattle.host_model.specs.Messages.{sentOf}
-use Rattle.host.specs.Step.{Left, left, sends, performs, phaseStep, stepOf}
+use Rattle.host.specs.Step.{left, sends, phaseStep, stepOf}
 use Rattle.host_model.specs.declared.waits.Wait.{Wait}
 use Rattle.host_model.specs.declared.waits.Phase.{Phase}
 use Rattle.host_model.specs.declared.waits.Phase.the-variants.{Ended, EndedAt, Waiting}

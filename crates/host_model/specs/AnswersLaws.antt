@@ -191,10 +191,6 @@ fitting-facts expected n command size h =
     let each = both (eqb command expected) _ h in
     record { same = eqb-true command expected (each .0); long = eqb-true size n (each .1) }
 
-pub facts-fitting : (expected n command size : ℕ) → FittingOf expected n command size → fitting expected n command size ≡ true
-unfolding fitting
-facts-fitting expected n command size f = rw (eq-eqb command expected (f .same), eq-eqb size n (f .long))
-
 pub fitting-no : (expected n command size : ℕ) → (FittingOf expected n command size → ⊥) → fitting expected n command size ≡ false
 fitting-no expected n command size h = not-eq-not .0 (λ e. h (fitting-facts expected n command size e))
 

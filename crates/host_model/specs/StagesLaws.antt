@@ -39,10 +39,6 @@ SmallMove Finish = Unit
 pub small-same : (stage told : Stage) → stage ≡ told → Small stage → Small told
 small-same stage told e h = rw (sym e) h
 
--- So is a move.
-pub small-move-same : (move told : Move) → move ≡ told → SmallMove move → SmallMove told
-small-move-same move told e h = rw (sym e) h
-
 -- ---- the rate
 
 -- A rate fits just where it is not above the first.

@@ -90,12 +90,9 @@ unfolding waitFits
 wait-stage image w fitting short few =
     rw (fitting, lt-ltb (w .waited) (limitOf (w .stage)) short, le-leb (w .repeats) mostRepeats few)
 
--- The stage of a waiting session that could arise is small, and it has waited less than the limit.
+-- The stage of a waiting session that could arise is small.
 pub wait-small : (image : ℕ) (w : Wait) → waitFits image w ≡ true → Small (w .stage)
 wait-small image w h = stage-small (w .plan) image (w .stage) (wait-facts image w h .staged)
-
-pub wait-short : (image : ℕ) (w : Wait) → waitFits image w ≡ true → w .waited < limitOf (w .stage)
-wait-short image w h = wait-facts image w h .short
 
 -- A frame, and a line of text, lead it to small stages only.
 pub wait-frame : (image : ℕ) (w : Wait) (command : ℕ) (payload : List ℕ) → waitFits image w ≡ true

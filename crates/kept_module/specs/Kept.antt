@@ -20,8 +20,6 @@ use Rattle.module_model.specs.declared.phases.Phase.{Phase}
 use Rattle.module_model.specs.declared.phases.Phase.the-variants.{Closed, Ready, Begun, Loading, Done}
 use Rattle.module.specs.declared.session.Session.{Session}
 use Rattle.module_model.specs.declared.events.Event.{Event}
-use Rattle.module_model.specs.declared.events.Answer.{Answer}
-use Rattle.module_model.specs.declared.events.Answer.the-variants.{Nothing, Sent, Refused}
 use Rattle.flat.specs.Words.{recorded, standsFor, lowHalf, highHalf}
 use Rattle.kept_module.specs.Record.{flashPlace, idlePlace, phasePlace, typePlace, lengthPlace, sizePlace, numberPlace, writtenPlace, recordBytes}
 use Rattle.kept_module.specs.Record.{closedPhase, readyPhase, begunPhase, loadingPhase, donePhase}

@@ -1,8 +1,7 @@
 -- The laws of readers as bytes.
 use Prim.Native.Nat.{ℕ, _+_, _-_, _/_, _≤_}
-use mathlib.Core.List.{List, [], _∷_, _++_, append-nil}
-use mathlib.Core.Path.{_≡_, refl, sym, ap, _∙_}
-use mathlib.Core.Bool.{true, false}
+use mathlib.Core.List.{List, [], _++_, append-nil}
+use mathlib.Core.Path.{_≡_, ap, _∙_}
 use native.Mathlib.Omega.{arith}
 use borrow.Author.Tests.{le-ltb}
 use lib.ListN.{length, take, drop, replicate, length-replicate, length-drop, drop-of-length-le}
@@ -12,8 +11,7 @@ use Rattle.octets.specs.Choice.{cond-no}
 use Rattle.flat.specs.Words.{spelledAll, recorded}
 use Rattle.flat.specs.WordsLaws.{length-spelled-all}
 use Rattle.wire.specs.Frame.{longestContent}
-use Rattle.reader.specs.declared.steps.Reader.{Reader}
-use Rattle.kept_reader.specs.Kept.{readerBytes, storePlace, bytesOf}
+use Rattle.kept_reader.specs.Kept.{readerBytes, storePlace}
 
 -- A store that the bytes from its place on are copied into.
 pub store-copied : (state : List ℕ) → readerBytes ≤ length state

@@ -1,11 +1,11 @@
 -- A reader kept as bytes is the same reader.
 use Prim.Native.Nat.{ℕ, _+_, _≤_}
-use mathlib.Core.Bool.{Bool, true, false, _&&_}
-use mathlib.Core.List.{List, [], _∷_, _++_, map, append-assoc}
-use mathlib.Core.Path.{_≡_, refl, sym, ap, ap₂, _∙_}
+use mathlib.Core.Bool.{Bool, true, false}
+use mathlib.Core.List.{List, [], _∷_, _++_, append-assoc}
+use mathlib.Core.Path.{_≡_, refl, sym, ap, _∙_}
 use native.Mathlib.Omega.{arith}
 use borrow.Author.Tests.{le-leb, le-ltb}
-use lib.Dec.{eqb, leb}
+use lib.Dec.{eqb}
 use lib.ListN.{length, take, drop, length-append, length-drop}
 use lib.Seq.{take-at, drop-at, drop-drop, take-append-le, drop-append-le}
 use Rattle.octets.specs.Octets.{numberAt, partOf, over}
@@ -19,10 +19,9 @@ use Rattle.flat.specs.Found.{ReadAt, read-all}
 use Rattle.reader.specs.Reader.{stepOf, payloadIn, numberIn, commandIn, countIn}
 use Rattle.reader_promises.specs.SeenLaws.{fresh-known, step-known}
 use Rattle.reader.specs.declared.steps.Reader.{Reader}
-use Rattle.reader.specs.declared.steps.Stepped.{Stepped}
 use Rattle.kept_reader.specs.Kept.{readerBytes, storePlace, payloadPlace, flag, bytesOf, stands, readerIn}
 use Rattle.kept_reader.specs.Kept.{Kept, keptNew, keptAfter, keptStep}
-use Rattle.kept_reader.specs.Promises.{Whole, KeptFresh, KeptBack, KeptPayload, stepsOf, callsOf, KeptRun}
+use Rattle.kept_reader.specs.Promises.{Whole, KeptFresh, KeptBack, KeptPayload, stepsOf, KeptRun}
 
 -- A flag is 0 or 1, and is read as it was.
 flag-low : (b : Bool) → flag b ≤ 1

@@ -4,7 +4,7 @@ use mathlib.Core.Bool.{Bool, true, false, _&&_, and-false, false≢true}
 use mathlib.Core.List.{List, [], _∷_, _++_, append-assoc, append-nil}
 use mathlib.Core.Path.{_≡_, refl, sym, ap, ap₂, _∙_}
 use native.Mathlib.Decide.{decLe}
-use native.Mathlib.Nat.{add-zero, le-trans, le-add-right, min-eq-left, min-eq-right, div-lt-iff-lt-mul, pow-suc}
+use native.Mathlib.Nat.{le-trans, le-add-right, min-eq-left, min-eq-right, div-lt-iff-lt-mul, pow-suc}
 use native.Mathlib.Nat.{mul-right-comm, div-add-mod, mod-lt, mul-add-mod-self-left, mod-eq-of-lt}
 use native.Mathlib.Numerals.{add-one, add-two}
 use native.Mathlib.Omega.{arith}

@@ -1,10 +1,9 @@
 -- Dropped is said where a frame that was open ends without being handed out, and nowhere else.
 use Prim.Native.Nat.{ℕ}
-use mathlib.Core.Bool.{Bool, true, false, cond, not, _&&_, _||_}
+use mathlib.Core.Bool.{Bool, true, false, cond, not}
 use mathlib.Core.List.{List}
-use mathlib.Core.Path.{_≡_, refl}
+use mathlib.Core.Path.{refl}
 use lib.Dec.{eqb, ltb}
-use lib.ListN.{length}
 use Rattle.octets.specs.Choice.{either-way}
 use Rattle.wire.specs.Escape.{headMark, escapeMark, tailMark, mayFollow, originalOf}
 use Rattle.wire.specs.Frame.{longestContent, verdictOf}
@@ -13,7 +12,6 @@ use Rattle.wire.specs.declared.content.Verdict.the-variants.{Good, Bad}
 use Rattle.reader.specs.Moves.{contentMove, followMove, tailMove, insideMove, moveOf, Does, passes, begins}
 use Rattle.reader.specs.Reader.{knownOf, heldOf, judgedBy, movedBy, knownStep, stepOf}
 use Rattle.reader.specs.declared.steps.Reader.{Reader}
-use Rattle.reader.specs.declared.steps.Stepped.{Stepped}
 use Rattle.reader_promises.specs.Promises.{DroppedExactly, ToldRight}
 
 module _ (store : List ℕ) (count : ℕ) where

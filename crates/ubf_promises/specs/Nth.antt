@@ -8,7 +8,7 @@ use Rattle.ubf_model.specs.Block.{blockOf, sizeOf}
 use Rattle.ubf_model.specs.Walk.{Standing, Ending, whole, fault, nthIn, nthFrom, walkOf}
 use Rattle.ubf_model.specs.declared.block.Found.the-variants.{Whole}
 use Rattle.ubf_promises.specs.Laid.{walk-laid}
-use Rattle.ubf_promises.specs.Promises.{LaidOut, EndsFrom, Before, NthStands, NthLaid}
+use Rattle.ubf_promises.specs.Promises.{LaidOut, EndsFrom, NthStands, NthLaid}
 
 module _ (file : List ℕ) where
   -- One block more behind those that are laid out.

@@ -3,13 +3,12 @@ use borrow.Author.Needs.{needs}
 use mathlib.Core.Path.{ap, ap₂, _∙_}
 use mathlib.Core.List.{List}
 use Prim.Native.Nat.{ℕ, _%_}
-use native.Mathlib.Omega.{arith}
 use lib.ListN.{length, replicate, length-replicate}
 use Rattle.octets.specs.Octets.{laid, spelled}
 use Rattle.wire.specs.Write.{writeOf}
 use Rattle.wire.specs.Frame.{frame}
-use Rattle.commands.specs.Commands.{parametersCommand, parametersFrame}
-use Rattle.commands.specs.CommandsLaws.{length-parameters, parameters-built}
+use Rattle.commands.specs.Commands.{parametersCommand}
+use Rattle.commands.specs.CommandsLaws.{parameters-built}
 use Rattle.commands.proofs.write_parameters.Statement.{statement}
 use Rattle.commands.proofs.write_parameters.Tie as tie
 

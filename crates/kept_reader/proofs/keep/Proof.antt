@@ -1,12 +1,8 @@
 -- `keep`: the words, then the store behind them.
-use Prim.Native.Nat.{_+_, _≤_}
-use mathlib.Core.List.{[], _∷_}
 use mathlib.Core.Path.{_≡_, refl, sym, ap, _∙_}
-use native.Mathlib.Omega.{arith}
 use lib.ListN.{length}
 use Rattle.wire.specs.Frame.{longestContent}
 use Rattle.octets.specs.Octets.{laid}
-use Rattle.flat.specs.Words.{recorded}
 use Rattle.kept_reader.specs.Kept.{storePlace, bytesOf}
 use Rattle.kept_reader.specs.KeptLaws.{words-and-store}
 use borrow.Author.Needs.{needs}

@@ -1,5 +1,5 @@
 -- `load`: bytes that stand for no reader are a fresh one.
-use mathlib.Core.Path.{_≡_, sym, _∙_}
+use mathlib.Core.Path.{sym, _∙_}
 use Rattle.octets.specs.Choice.{cond-yes, cond-no, passed, failed}
 use Rattle.kept_reader.specs.Kept.{readerIn}
 use borrow.Author.Needs.{needs}

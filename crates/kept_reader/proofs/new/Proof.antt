@@ -1,6 +1,6 @@
 -- `new`: the bytes of a fresh reader, where they have room.
 use borrow.Author.Tests.{lt-ltb, le-ltb}
-use mathlib.Core.Path.{_≡_, sym, ap, _∙_}
+use mathlib.Core.Path.{sym}
 use Rattle.octets.specs.Choice.{cond-yes, cond-no}
 use Rattle.kept_reader.specs.Kept.{keptNew}
 use borrow.Author.Needs.{needs}

@@ -1,10 +1,5 @@
 -- `stands_for_one`: count, then the two flags.
 use borrow.Author.Tests.{le-leb, lt-leb}
-use mathlib.Core.Path.{_≡_, sym, ap}
-use mathlib.Core.Bool.{_&&_}
-use native.Mathlib.Omega.{arith}
-use lib.Dec.{leb}
-use Rattle.octets.specs.Octets.{numberAt}
 use Rattle.kept_reader.specs.Kept.{stands}
 use borrow.Author.Needs.{needs}
 use Rattle.kept_reader.proofs.stands_for_one.Statement.{statement}

@@ -1,6 +1,6 @@
 -- `step`: the reader's own step between reading it and writing it back.
 use borrow.Author.Tests.{lt-ltb, le-ltb}
-use mathlib.Core.Path.{_≡_, sym, ap, _∙_}
+use mathlib.Core.Path.{sym}
 use Rattle.octets.specs.Choice.{cond-yes, cond-no}
 use Rattle.kept_reader.specs.Kept.{keptStep}
 use borrow.Author.Needs.{needs}

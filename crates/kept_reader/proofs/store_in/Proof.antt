@@ -1,5 +1,5 @@
 -- `store_in`: the bytes behind the words, as many as a store has.
-use mathlib.Core.Path.{_≡_, ap, _∙_}
+use mathlib.Core.Path.{ap, _∙_}
 use lib.ListN.{replicate}
 use Rattle.wire.specs.Frame.{longestContent}
 use Rattle.octets.specs.Octets.{laid}

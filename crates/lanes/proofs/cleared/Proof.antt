@@ -1,5 +1,4 @@
 -- `cleared`: nothing is under way where the end is not behind the place.
-use borrow.Author.Needs.{needs}
 use borrow.Author.Tests.{le-leb, lt-leb}
 use Rattle.lanes.specs.Lanes.{clearedOf}
 use Rattle.lanes.proofs.cleared.Statement.{statement}

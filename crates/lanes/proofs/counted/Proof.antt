@@ -1,6 +1,5 @@
 -- `counted`: by the wrapping sum.
 use borrow.Author.Needs.{needs}
-use mathlib.Core.Path.{ap}
 use Rattle.lanes.proofs.counted.Statement.{statement}
 use Rattle.lanes.proofs.counted.Tie as tie
 

@@ -1,7 +1,6 @@
 -- `lay_byte`: at rate 0 no byte is disturbed, and each is counted and put.
 use borrow.Author.Needs.{needs}
 use native.Mathlib.Omega.{arith}
-use Rattle.lanes.specs.Lanes.{passed}
 use Rattle.lanes.proofs.lay_byte.Statement.{statement}
 use Rattle.lanes.proofs.lay_byte.Tie as tie
 

@@ -1,6 +1,5 @@
 -- `lost`: by the wrapping sum.
 use borrow.Author.Needs.{needs}
-use mathlib.Core.Path.{ap}
 use Rattle.lanes.proofs.lost.Statement.{statement}
 use Rattle.lanes.proofs.lost.Tie as tie
 

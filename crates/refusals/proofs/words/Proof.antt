@@ -1,5 +1,5 @@
 -- `refusals::words`: the literal is the table of words as bytes, and what is found in it is said.
-use mathlib.Core.Path.{_≡_, ap, _∙_}
+use mathlib.Core.Path.{ap, _∙_}
 use borrow.Author.Needs.{needs}
 use Rattle.refusals.specs.Refusals.{sayOf}
 use Rattle.refusals.specs.RowsLaws.{words-found}

@@ -1,5 +1,5 @@
 -- `numbers_in`: one answer a case.
-use mathlib.Core.Path.{_≡_, sym, ap, _∙_}
+use mathlib.Core.Path.{sym, ap, _∙_}
 use Rattle.exports.specs.Flat.{foundFlat}
 use borrow.Author.Needs.{needs}
 use Rattle.exports.proofs.files.numbers_in.Statement.{statement}

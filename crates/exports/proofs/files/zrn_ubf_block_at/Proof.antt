@@ -1,5 +1,5 @@
 -- `zrn_ubf_block_at`: the numbers of what the walk finds.
-use mathlib.Core.Path.{_≡_, sym, ap, _∙_}
+use mathlib.Core.Path.{ap, _∙_}
 use Rattle.exports.specs.Flat.{nthFlat}
 use borrow.Author.Needs.{needs}
 use Rattle.exports.proofs.files.zrn_ubf_block_at.Statement.{statement}

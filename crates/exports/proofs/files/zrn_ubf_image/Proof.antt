@@ -1,7 +1,5 @@
 -- `zrn_ubf_image`: start and length, made wide.
-use mathlib.Core.Path.{_≡_, sym, ap, _∙_}
-use Rattle.octets.specs.Octets.{partOf}
-use Rattle.exports.specs.Flat.{stretchOf}
+use mathlib.Core.Path.{_∙_}
 use borrow.Author.Needs.{needs}
 use Rattle.exports.proofs.files.zrn_ubf_image.Statement.{statement}
 use Rattle.exports.proofs.files.zrn_ubf_image.Tie as tie

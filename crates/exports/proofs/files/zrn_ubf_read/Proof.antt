@@ -1,5 +1,4 @@
 -- `zrn_ubf_read`: the numbers of the block at the front.
-use mathlib.Core.Path.{_≡_, sym, ap, _∙_}
 use Rattle.ubf_model.specs.Block.{blockOf}
 use Rattle.exports.specs.Flat.{found-nowhere}
 use borrow.Author.Needs.{needs}

@@ -1,5 +1,5 @@
 -- `zrn_frame_write`: the writer's answer, by number.
-use mathlib.Core.Path.{_≡_, sym, ap, _∙_}
+use mathlib.Core.Path.{ap}
 use Rattle.exports.specs.Flat.{writtenFlat}
 use borrow.Author.Needs.{needs}
 use Rattle.exports.proofs.frames.zrn_frame_write.Statement.{statement}

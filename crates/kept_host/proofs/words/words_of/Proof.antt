@@ -1,7 +1,7 @@
 -- `words_of`: by the phase.
 use borrow.Author.Needs.{needs}
 use mathlib.Core.Path.{sym, ap, _∙_}
-use Rattle.kept_host.specs.Kept.{endedWords, phaseWords, wordsOf}
+use Rattle.kept_host.specs.Kept.{phaseWords, wordsOf}
 use Rattle.kept_host.proofs.words.words_of.Statement.{statement}
 use Rattle.kept_host.proofs.words.words_of.Tie as tie
 

@@ -1,5 +1,5 @@
 -- `ended_by`: one ending a case.
-use mathlib.Core.Path.{_≡_, sym, ap, _∙_}
+use mathlib.Core.Path.{sym, ap, _∙_}
 use Rattle.posts.specs.View.{endingOf}
 use borrow.Author.Needs.{needs}
 use Rattle.posts.proofs.ending.ended_by.Statement.{statement}

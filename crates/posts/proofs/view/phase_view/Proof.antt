@@ -1,5 +1,5 @@
 -- `phase_view`: one view a case.
-use mathlib.Core.Path.{_≡_, sym, ap, _∙_}
+use mathlib.Core.Path.{sym, ap, _∙_}
 use Rattle.posts.specs.View.{phaseView}
 use borrow.Author.Needs.{needs}
 use Rattle.posts.proofs.view.phase_view.Statement.{statement}

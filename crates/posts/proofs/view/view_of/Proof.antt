@@ -1,5 +1,5 @@
 -- `view_of`: a session that takes no events is seen as closed.
-use mathlib.Core.Path.{_≡_, sym, ap, _∙_}
+use mathlib.Core.Path.{sym, _∙_}
 use Rattle.octets.specs.Choice.{cond-yes, cond-no, passed, failed}
 use Rattle.posts.specs.View.{viewOf}
 use borrow.Author.Needs.{needs}
