@@ -160,6 +160,19 @@ abbrev pub saysNoNotice : Rule
 saysNoNotice phase command payload flash =
     let d = decideOf phase command payload flash in record { phase = d .phase; say = unnoticed (d .say); put = d .put }
 
+-- Refused parameters leave no transfer.
+abbrev dropped : Say → Phase → Phase
+dropped Nothing phase = phase
+dropped (Rate rate ack) phase = phase
+dropped (Parameters ack) phase = cond (eqb ack accepted) phase Ready
+dropped (Packet number ack) phase = phase
+dropped (Last number state) phase = phase
+dropped (Restart ack) phase = phase
+
+abbrev pub dropsTransfer : Rule
+dropsTransfer phase command payload flash =
+    let d = decideOf phase command payload flash in record { phase = dropped (d .say) (d .phase); say = d .say; put = d .put }
+
 -- Data are written at the address that the parameters carry, so 0 for type 1.
 abbrev atAddress : Phase → Put → Put
 atAddress (Begun t) (At place) = At (place - baseOf (t .kind) + tokenOf (t .kind))
