@@ -21,9 +21,6 @@ use module_model::Pieces;
 use module_model::SMALLEST_REPLY;
 use module_model::Transfer;
 
-// The idle sum after a frame.
-const ANEW: u32 = 0;
-
 // The length of the flash at the opening, the milliseconds since the last frame, and how far the session is.
 pub struct Session {
     pub flash: usize,
@@ -110,7 +107,7 @@ impl Session {
         Stepped {
             session: Session {
                 flash: self.flash,
-                idle: ANEW,
+                idle: 0,
                 phase: next,
             },
             answer: send(say, reply),
