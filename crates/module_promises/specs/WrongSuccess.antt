@@ -90,14 +90,14 @@ abbrev skipped : Exchange
 skipped = exchangeBy skipping (asked .left .session) (given flash8 sends2)
 
 abbrev done8 : Phase
-done8 = Done (record { transfer = record { kind = Upgrade; length = 8 }; size = 4 }) 8
+done8 = Done (record { transfer = record { kind = Upgrade; extent = 8 }; size = 4 }) 8
 
 skipping-heard : (heardOf asked ≡ parametersReply largestPacket accepted ∷ []) × (heardOf skipped ≡ packetReply 2 accepted ∷ notice 0 ∷ [])
 unfolding openingOf takes alive openable kindOf fitsFlash numberAt little rules.decideOf rules.parametersDecision rules.kindDecision
     rules.numbersIn rules.stateOf
 skipping-heard = (
   heard-performed (opened flash8) (decideOf Ready 2 (declares8 .payload) flash8) (declares8 .payload) flash8 (declares8 .reply),
-  heard-performed begun8 (rules.acknowledged done8 2 Nowhere) (sends2 .payload) flash8 (sends2 .reply),
+  heard-performed begun8 (rules.acknowledgeOf done8 2 Nowhere) (sends2 .payload) flash8 (sends2 .reply),
 )
 
 pub skips-packets-refuted : SuccessExactlyOf skipping → ⊥
