@@ -34,13 +34,13 @@ rowOf flash idle phase kind length size number written =
 -- Those of a session whose pieces are set.
 abbrev pub piecesRow : ℕ → ℕ → ℕ → Pieces → ℕ → ℕ → List ℕ
 piecesRow flash idle phase p number written =
-    rowOf flash idle phase (numberOf (p .transfer .kind)) (p .transfer .length) (p .size) number written
+    rowOf flash idle phase (numberOf (p .transfer .kind)) (p .transfer .extent) (p .size) number written
 
 -- The words of a session by its phase; what a phase does not have is 0.
 abbrev pub wordsBy : ℕ → ℕ → Phase → List ℕ
 wordsBy flash idle Closed = rowOf flash idle closedPhase 0 0 0 0 0
 wordsBy flash idle Ready = rowOf flash idle readyPhase 0 0 0 0 0
-wordsBy flash idle (Begun t) = rowOf flash idle begunPhase (numberOf (t .kind)) (t .length) 0 0 0
+wordsBy flash idle (Begun t) = rowOf flash idle begunPhase (numberOf (t .kind)) (t .extent) 0 0 0
 wordsBy flash idle (Loading p number written) = piecesRow flash idle loadingPhase p number written
 wordsBy flash idle (Done p written) = piecesRow flash idle donePhase p 0 written
 
@@ -58,7 +58,7 @@ abbrev pub kindIn : List ℕ → Kind
 kindIn st = kindBy (kindOf (numberAt 2 st typePlace))
 
 abbrev pub transferIn : List ℕ → Transfer
-transferIn st = record { kind = kindIn st; length = numberAt 4 st lengthPlace }
+transferIn st = record { kind = kindIn st; extent = numberAt 4 st lengthPlace }
 
 abbrev pub piecesIn : List ℕ → Pieces
 piecesIn st = record { transfer = transferIn st; size = numberAt 4 st sizePlace }

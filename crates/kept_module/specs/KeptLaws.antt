@@ -33,7 +33,7 @@ use Rattle.flat.specs.Found.{Words, ReadAt, recorded-read, recorded-stands, rec
 
 -- The numbers of a phase fit words,
 record SmallPieces (p : Pieces) (number written : ℕ) : Type 0 where
-  length-small : p .transfer .length < 4294967296
+  length-small : p .transfer .extent < 4294967296
   size-small : p .size < 4294967296
   number-small : number < 4294967296
   written-small : written < 4294967296
@@ -41,7 +41,7 @@ record SmallPieces (p : Pieces) (number written : ℕ) : Type 0 where
 abbrev SmallPhase : Phase → Type 0
 SmallPhase Closed = Unit
 SmallPhase Ready = Unit
-SmallPhase (Begun t) = t .length < 4294967296
+SmallPhase (Begun t) = t .extent < 4294967296
 SmallPhase (Loading p number written) = SmallPieces p number written
 SmallPhase (Done p written) = SmallPieces p 0 written
 
@@ -55,13 +55,13 @@ record Small (s : Session) : Type 0 where
 held-small : (phase : Phase) (flash : ℕ) → held phase flash ≡ true → SmallPhase phase
 held-small Closed flash h = tt
 held-small Ready flash h = tt
-held-small (Begun t) flash h = omega (arith, fits-flash (t .kind) (t .length) flash h .short)
+held-small (Begun t) flash h = omega (arith, fits-flash (t .kind) (t .extent) flash h .short)
 held-small (Loading p number written) flash h =
     let l = loading-facts p flash number written h in
     record {
       length-small = omega (arith, l .fitting .short);
       size-small = omega (arith, l .cut .small);
-      number-small = omega (arith, l .before, l .cut .carried);
+      number-small = omega (arith, l .before, l .cut .total-most);
       written-small = omega (arith, loading-short p flash number written l, l .fitting .short);
     }
 held-small (Done p written) flash h =
@@ -117,12 +117,12 @@ words-small : (flash idle : ℕ) (phase : Phase) → idle < 4294967296 → Words
 words-small flash idle Closed i = row-small flash idle closedPhase 0 0 0 0 0 i (omega arith) (omega arith)
 words-small flash idle Ready i = row-small flash idle readyPhase 0 0 0 0 0 i (omega arith) (omega arith)
 words-small flash idle (Begun t) i =
-    row-small flash idle begunPhase (numberOf (t .kind)) (t .length) 0 0 0 i (omega arith) (kind-spelled (t .kind) .0)
+    row-small flash idle begunPhase (numberOf (t .kind)) (t .extent) 0 0 0 i (omega arith) (kind-spelled (t .kind) .0)
 words-small flash idle (Loading p number written) i =
-    row-small flash idle loadingPhase (numberOf (p .transfer .kind)) (p .transfer .length) (p .size) number written i (omega arith)
+    row-small flash idle loadingPhase (numberOf (p .transfer .kind)) (p .transfer .extent) (p .size) number written i (omega arith)
     (kind-spelled (p .transfer .kind) .0)
 words-small flash idle (Done p written) i =
-    row-small flash idle donePhase (numberOf (p .transfer .kind)) (p .transfer .length) (p .size) 0 written i (omega arith)
+    row-small flash idle donePhase (numberOf (p .transfer .kind)) (p .transfer .extent) (p .size) 0 written i (omega arith)
     (kind-spelled (p .transfer .kind) .0)
 
 -- ---- read again
@@ -134,12 +134,12 @@ kind-back s k e = ap kindBy (ap kindOf (two-back s typePlace (numberOf k) (kind-
 low-back : (w x : ℕ) → x < 4294967296 → w ≡ lowHalf x → w ≡ x
 low-back w x small e = omega arith
 
-transfer-back : (s : List ℕ) (t : Transfer) → t .length < 4294967296 → numberAt 4 s typePlace ≡ numberOf (t .kind)
-    → numberAt 4 s lengthPlace ≡ lowHalf (t .length) → transferIn s ≡ t
-transfer-back s t small k n = rw (kind-back s (t .kind) k, low-back _ (t .length) small n)
+transfer-back : (s : List ℕ) (t : Transfer) → t .extent < 4294967296 → numberAt 4 s typePlace ≡ numberOf (t .kind)
+    → numberAt 4 s lengthPlace ≡ lowHalf (t .extent) → transferIn s ≡ t
+transfer-back s t small k n = rw (kind-back s (t .kind) k, low-back _ (t .extent) small n)
 
-pieces-back : (s : List ℕ) (p : Pieces) → p .transfer .length < 4294967296 → p .size < 4294967296
-    → numberAt 4 s typePlace ≡ numberOf (p .transfer .kind) → numberAt 4 s lengthPlace ≡ lowHalf (p .transfer .length)
+pieces-back : (s : List ℕ) (p : Pieces) → p .transfer .extent < 4294967296 → p .size < 4294967296
+    → numberAt 4 s typePlace ≡ numberOf (p .transfer .kind) → numberAt 4 s lengthPlace ≡ lowHalf (p .transfer .extent)
     → numberAt 4 s sizePlace ≡ lowHalf (p .size) → piecesIn s ≡ p
 pieces-back s p small fits k n m = rw (transfer-back s (p .transfer) small k n, low-back _ (p .size) fits m)
 

@@ -54,7 +54,7 @@ fn transfer_in(state: &[u8]) -> Transfer
 {
     Transfer {
         kind: kind_in(state),
-        length: word_at(state, record::LENGTH_PLACE),
+        extent: word_at(state, record::LENGTH_PLACE),
     }
 }
 

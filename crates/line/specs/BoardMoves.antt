@@ -28,7 +28,7 @@ use Rattle.module_model.specs.Rules.{dataIn, placeOf}
 use Rattle.module_promises.specs.Runs.{Given, Exchange, exchange, nextOf, payloadOf}
 use Rattle.module_model.specs.Outcomes.{Expects, first, later, Accepted, loading, done}
 use Rattle.module_model.specs.Replies.{Quiet}
-use Rattle.module_promises.specs.Said.{Declares, Acknowledges, Turn, quiet, declares, writes, again, heardOf, turn-of}
+use Rattle.module_promises.specs.Said.{Declares, AcceptsPacket, Turn, quiet, declares, writes, again, heardOf, turn-of}
 use Rattle.module_model.specs.Due.{transferFor, type-read, length-read, total-read, number-read, data-read}
 use Rattle.module_model.specs.declared.phases.Transfer.{Transfer}
 use Rattle.module_model.specs.declared.phases.Pieces.{Pieces}
@@ -162,7 +162,7 @@ module _ (kind : Kind) (w : Wishes) (image before : List ℕ) where
         begins short is =
             let kind-is : kind ≡ t .kind =
             ap foundKind (sym (kind-of-number kind) ∙ ap kindOf (sym (type-read kind image)) ∙ ap (λ (l : List ℕ). kindOf (numberAt 2 l 0)) (sym is) ∙ d .kind-is) in
-            let length-is : length image ≡ t .length =
+            let length-is : length image ≡ t .extent =
             sym (length-read kind image short) ∙ ap (λ (l : List ℕ). numberAt 4 l 2) (sym is) ∙ d .length-is in
             let transfer-is : t ≡ transferFor kind image = rw (kind-is, length-is) in
             let room : base + length image ≤ length before =
@@ -188,7 +188,7 @@ module _ (kind : Kind) (w : Wishes) (image before : List ℕ) where
       carries : dataIn (payloadOf g) ≡ pieceOf image size number
       total-is : total ≡ totalOf p
 
-    packet-heard : (p : Pieces) (number : ℕ) → Acknowledges (j .board) g p number → Ours-heard p number
+    packet-heard : (p : Pieces) (number : ℕ) → AcceptsPacket (j .board) g p number → Ours-heard p number
     packet-heard p number a = go (from (a .count) packetCommand (a .event-is))
       where
         is-ours : (k : ℕ) → h .begun ≡ true → 1 ≤ length image → 1 ≤ size → 1 ≤ k → k ≤ total → total ≤ largestTotal
@@ -236,7 +236,7 @@ module _ (kind : Kind) (w : Wishes) (image before : List ℕ) where
         record { transfer-is = at .0 .0; place-is = rw (at .0 .0, at .0 .1); filled = rw back (at .1) }
 
     -- The expected packet is accepted and written.
-    writes-stands : (p : Pieces) (number : ℕ) → Acknowledges (j .board) g p number → Expects (j .board .phase) p number
+    writes-stands : (p : Pieces) (number : ℕ) → AcceptsPacket (j .board) g p number → Expects (j .board .phase) p number
         → x .left .flash ≡ laid (g .flash) (placeOf p number) (dataIn (payloadOf g)) → Stand kind w image before (boardTakes j (x .left))
     writes-stands p number a expects put =
         stood (h .begun) (λ e. e) (λ f e. e) (λ most few m. absurd (a .said .no-parameters most m))
@@ -282,14 +282,14 @@ module _ (kind : Kind) (w : Wishes) (image before : List ℕ) where
             let under : number < total = omega (arith, less, k .total-is) in
             let mine : length (pieceOf image size number) ≡ size = long ∙ size-before (length image) size number under in
             let theirs : length (pieceOf image size number) ≡ p .size =
-            ap length (sym (k .carries)) ∙ a .belongs .size-is ∙ size-before (p .transfer .length) (p .size) number less in
+            ap length (sym (k .carries)) ∙ a .belongs .size-is ∙ size-before (p .transfer .extent) (p .size) number less in
             let upto : o + length (pieceOf image size number) ≡ number * size =
             ap (λ (m : ℕ). o + m) mine ∙ sym (product-step number size (k .one)) in
             rw e ((at .transfer-is, sym theirs ∙ mine), rw upto at filled)
         at-after (done e last) = rw e (at .transfer-is, all-filled last)
 
     -- A repeat is acknowledged and nothing is written.
-    again-stands : (p : Pieces) (number : ℕ) → Acknowledges (j .board) g p number → Accepted (j .board .phase) p number
+    again-stands : (p : Pieces) (number : ℕ) → AcceptsPacket (j .board) g p number → Accepted (j .board .phase) p number
         → x .left .flash ≡ g .flash → Stand kind w image before (boardTakes j (x .left))
     again-stands p number a behind same =
         stood (h .begun) (λ e. e) (λ f e. e) (λ most few m. absurd (a .said .no-parameters most m)) (rw kept-flash (h .kept)) (h .inside)

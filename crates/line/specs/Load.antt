@@ -317,7 +317,7 @@ module _ (image output reply : List ℕ) where
         due n = session width 0 (waiting p n)
 
         abbrev finished : ModuleSession
-        finished = session width 0 (Done p (p .transfer .length))
+        finished = session width 0 (Done p (p .transfer .extent))
 
         -- The packet that is due then.
         abbrev next : ℕ → Frame
@@ -351,7 +351,7 @@ module _ (image output reply : List ℕ) where
           flash-long : length (flashNext n now) ≡ width
           flash-long =
               let k = n + 1 in
-              let w = within (p .transfer .length) (p .size) k (cut-length p (c .cut)) (c .cut .some) (omega arith) (omega (arith, less)) in
+              let w = within (p .transfer .extent) (p .size) k (cut-length p (c .cut)) (c .cut .some) (omega arith) (omega (arith, less)) in
               let f = piece-facts p image width k c (omega arith) (omega (arith, less)) in
               let put : flashNext n now ≡ laid now (placeOf p k) (pieceOf image (p .size) k) =
               ap (λ (l : module-step.Left). l .flash) packet-performs
@@ -376,7 +376,7 @@ module _ (image output reply : List ℕ) where
           last-answers last = record {
             session-is = ap (λ (l : module-step.Left). l .session) packet-performs ∙ ap (session width 0) (taken-done p n (c .cut) last);
             flash-is = refl;
-            says = packet-says ∙ rw (taken-done p n (c .cut) last, state-whole p (p .transfer .length) refl);
+            says = packet-says ∙ rw (taken-done p n (c .cut) last, state-whole p (p .transfer .extent) refl);
           }
 
         -- When done the session still takes events.
@@ -384,7 +384,7 @@ module _ (image output reply : List ℕ) where
         done-takes =
             facts-takes finished
             (record { some = omega (arith, c .fitting .some, c .fitting .inside); most = most; waited = omega arith })
-            (facts-done p width (p .transfer .length) (record { fitting = c .fitting; cut = c .cut; all = refl }))
+            (facts-done p width (p .transfer .extent) (record { fitting = c .fitting; cut = c .cut; all = refl }))
 
         -- The packets from a number on as they are offered, and the flash after them.
         abbrev offersFrom : ℕ → ℕ → List Offer
@@ -465,7 +465,7 @@ module _ (image output reply : List ℕ) where
           carries = record {
             whole = refl;
             fitting = fitting;
-            cut = record { some = cut .some; small = cut .small; within = cut .inside; carried = rw (← cut .count) few };
+            cut = record { some = cut .some; small = cut .small; within = cut .inside; total-most = rw (← cut .count) few };
           }
 
           -- No flash is longer than the largest.

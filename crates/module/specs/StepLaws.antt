@@ -65,18 +65,18 @@ module _ (f : Frame) (before : List ℕ) (few : length (f .payload) ≤ shortPay
       omega (arith, none, wire-size (contentOf f))
 
 -- What is said is answered and stands in the reply buffer.
-abbrev pub Says : Say → Answer → List ℕ → List ℕ → Type 0
-Says say answer before after = (answer ≡ answerOf (framesOf say)) × (after ≡ over (wiresOf (framesOf say)) before)
+abbrev pub Replied : Say → Answer → List ℕ → List ℕ → Type 0
+Replied say answer before after = (answer ≡ answerOf (framesOf say)) × (after ≡ over (wiresOf (framesOf say)) before)
 
 -- This holds of what is said, whatever name it has.
-pub says-same : (say said : Say) (answer : Answer) (before after : List ℕ) → say ≡ said → Says said answer before after
-    → Says say answer before after
-says-same say said answer before after e h = rw e h
+pub replied-same : (say said : Say) (answer : Answer) (before after : List ℕ) → say ≡ said → Replied said answer before after
+    → Replied say answer before after
+replied-same say said answer before after e h = rw e h
 
 -- Where nothing is said, the buffer is as lent.
-pub says-nothing : (reply : List ℕ) → Says Nothing answer.Nothing reply reply
+pub replied-nothing : (reply : List ℕ) → Replied Nothing answer.Nothing reply reply
 unfolding wiresOf
-says-nothing reply = (refl, sym (over-nil reply))
+replied-nothing reply = (refl, sym (over-nil reply))
 
 -- One frame is sent.
 pub sent-one : (f : Frame) (n : ℕ) (before after : List ℕ) → Wrote f n before after
@@ -124,7 +124,7 @@ sent-two f g n m before mid after v w =
 
 -- What was decided, put and said is what a frame given to an open session leaves.
 pub frame-done : (s : Session) (command : ℕ) (payload flash reply : List ℕ) (d : Decision) (a : Answer) (stored sent : List ℕ)
-    → d ≡ decideOf (s .phase) command payload flash → stored ≡ putOf (d .put) payload flash → Says (d .say) a reply sent
+    → d ≡ decideOf (s .phase) command payload flash → stored ≡ putOf (d .put) payload flash → Replied (d .say) a reply sent
     → left (stepped (session (s .flash) 0 (d .phase)) a) stored sent ≡ frameStep s command payload flash reply
 unfolding frameStep
 frame-done s command payload flash reply d a stored sent decided put said =

@@ -5,7 +5,7 @@ ghost use Rattle.commands.specs.Commands.{largestPacket, largestTotal};
 ghost use Rattle.module_model.specs.Phases.{totalOf};
 ghost use Rattle.module_model.specs.Rules.{unmoved, rateAck, rateDecision, parametersDecision, kindDecision, restartDecision};
 ghost use Rattle.module_model.specs.Rules.{numbersIn, wellFormed, notTaken, cutsInto, placeOf, isPacket, isRepeat, phaseAt};
-ghost use Rattle.module_model.specs.Rules.{stateOf, sayOf, acknowledged, taken, repeatDecision, firstDecision, loadingDecision};
+ghost use Rattle.module_model.specs.Rules.{stateOf, sayOf, acknowledgeOf, taken, repeatDecision, firstDecision, loadingDecision};
 ghost use Rattle.module_model.specs.Rules.{doneDecision, phaseDecision, packetDecision, decideOf, putOf};
 ghost use Rattle.module_model.specs.PhasesLaws.{Bounded, BoundedPhase};
 use commands::LARGEST_PACKET;
@@ -144,7 +144,7 @@ fn parameters_of(phase: Phase, kind: Kind, payload: &[u8], flash: usize) -> Deci
     unmoved_say(
         Phase::Begun(Transfer {
             kind: kind,
-            length: length,
+            extent: length,
         }),
         Say::Parameters {
             ack: commands::ACCEPTED,
@@ -244,7 +244,7 @@ fn first(transfer: Transfer, given: Numbers) -> Decision
     if given.number != 1 {
         return packet_refused(Phase::Begun(transfer));
     }
-    if !cuts_into(transfer.length, given.total, given.size) {
+    if !cuts_into(transfer.extent, given.total, given.size) {
         return packet_refused(Phase::Begun(transfer));
     }
     let pieces = Pieces {
@@ -328,7 +328,7 @@ fn is_packet(pieces: Pieces, number: usize, given: Numbers) -> bool
     if given.total != total_of(pieces) {
         return false;
     }
-    given.size == pieces::size_at(transfer.length, pieces.size, number)
+    given.size == pieces::size_at(transfer.extent, pieces.size, number)
 }
 
 // A repeat has the same bytes as the flash, too.
@@ -355,7 +355,7 @@ fn taken_at(pieces: Pieces, number: usize, written: usize) -> Decision
 }
 
 fn acknowledge(phase: Phase, number: usize, put: Put) -> Decision
-    ensures { λ r. ⌜ r ≡ acknowledged phase number put ⌝ }
+    ensures { λ r. ⌜ r ≡ acknowledgeOf phase number put ⌝ }
 {
     Decision {
         phase: phase,
@@ -414,7 +414,7 @@ fn state_of(pieces: Pieces, written: usize) -> u8
     ensures { λ r. ⌜ r ≡ stateOf pieces written ⌝ }
 {
     let transfer = pieces.transfer;
-    if written == transfer.length {
+    if written == transfer.extent {
         STATE_WHOLE
     } else {
         STATE_SHORT
@@ -425,7 +425,7 @@ fn total_of(pieces: Pieces) -> usize
     ensures { λ r. ⌜ r ≡ totalOf pieces ⌝ }
 {
     let transfer = pieces.transfer;
-    pieces::count(transfer.length, pieces.size)
+    pieces::count(transfer.extent, pieces.size)
 }
 
 // Where a packet is written: the base of the type's image, and the packets before it.

@@ -185,7 +185,7 @@ fn is_fit(transfer: Transfer, flash: usize) -> bool
     ensures { λ r. ⌜ r ≡ fits transfer flash ⌝ }
 {
     let kind = transfer.kind;
-    kinds::fits_flash(kind, transfer.length, flash)
+    kinds::fits_flash(kind, transfer.extent, flash)
 }
 
 // Whether packet 1 could have set this size.
@@ -199,10 +199,10 @@ fn is_cut(pieces: Pieces) -> bool
     if LARGEST_PACKET < pieces.size {
         return false;
     }
-    if transfer.length < pieces.size {
+    if transfer.extent < pieces.size {
         return false;
     }
-    pieces::count(transfer.length, pieces.size) <= LARGEST_TOTAL
+    pieces::count(transfer.extent, pieces.size) <= LARGEST_TOTAL
 }
 
 fn is_loading(pieces: Pieces, flash: usize, number: usize, written: usize) -> bool
@@ -218,7 +218,7 @@ fn is_loading(pieces: Pieces, flash: usize, number: usize, written: usize) -> bo
     if number < 1 {
         return false;
     }
-    if pieces::count(transfer.length, pieces.size) <= number {
+    if pieces::count(transfer.extent, pieces.size) <= number {
         return false;
     }
     written == number * pieces.size
@@ -234,5 +234,5 @@ fn is_done(pieces: Pieces, flash: usize, written: usize) -> bool
     if !is_cut(pieces) {
         return false;
     }
-    written == transfer.length
+    written == transfer.extent
 }

@@ -21,7 +21,7 @@ use Rattle.module_model.specs.Phases.{totalOf, held}
 use Rattle.module_model.specs.PhasesLaws.{Cut, cut-length, facts-loading}
 use Rattle.module_model.specs.Rules.{unmoved, taken, dataIn, kindDecision, parametersDecision, numbersIn, phaseAt}
 use Rattle.module_model.specs.Rules.{packetHead, parametersLength, typeField, lengthField, addressField}
-use Rattle.module_model.specs.Rules.{placeOf, isRepeat, acknowledged}
+use Rattle.module_model.specs.Rules.{placeOf, isRepeat, acknowledgeOf}
 use Rattle.module_model.specs.Rules.{firstDecision, loadingDecision, phaseDecision, packetDecision, decideOf}
 use Rattle.module_model.specs.RulesLaws.{formed-yes, cut-yes, PacketOf, packet-yes, first-taken, next-taken, decide-packet}
 use Rattle.module_model.specs.RulesLaws.{packet-formed, repeat-yes, repeat-taken, done-repeat}
@@ -39,7 +39,7 @@ use Rattle.module_model.specs.declared.rules.Decision.{Decision}
 
 -- What the parameters for an image declare.
 abbrev pub transferFor : Kind → List ℕ → Transfer
-transferFor kind image = record { kind = kind; length = length image }
+transferFor kind image = record { kind = kind; extent = length image }
 
 -- The address of a kind fits four bytes.
 token-spelled : (k : Kind) → tokenOf k < 256 ^ 4
@@ -88,19 +88,19 @@ numbersFor image size k = record { total = countOf (length image) size; number =
 
 -- A transfer of an image into a flash: its length is declared, it fits, and the packet size cuts it.
 pub record Carries (p : Pieces) (image : List ℕ) (flash : ℕ) : Type 0 where
-  pub whole : length image ≡ p .transfer .length
-  pub fitting : FitsFlash (p .transfer .kind) (p .transfer .length) flash
+  pub whole : length image ≡ p .transfer .extent
+  pub fitting : FitsFlash (p .transfer .kind) (p .transfer .extent) flash
   pub cut : Cut p
 
 -- The facts of one of its pieces: not empty, not over the size, and as long as the number says.
 pub record PieceOf (p : Pieces) (image : List ℕ) (k : ℕ) : Type 0 where
   pub some : 1 ≤ length (pieceOf image (p .size) k)
   pub small : length (pieceOf image (p .size) k) ≤ largestPacket
-  pub long : length (pieceOf image (p .size) k) ≡ sizeAt (p .transfer .length) (p .size) k
+  pub long : length (pieceOf image (p .size) k) ≡ sizeAt (p .transfer .extent) (p .size) k
 
 pub piece-facts : (p : Pieces) (image : List ℕ) (flash k : ℕ) → Carries p image flash → 1 ≤ k → k ≤ totalOf p → PieceOf p image k
 piece-facts p image flash k c one most =
-    let n = p .transfer .length in
+    let n = p .transfer .extent in
     let some : 1 ≤ n = cut-length p (c .cut) in
     let w = within n (p .size) k some (c .cut .some) one most in
     let here : k ≤ countOf (length image) (p .size) = rw (c .whole) most in
@@ -145,9 +145,9 @@ packet-decided : (phase : Phase) (p : Pieces) (image flash : List ℕ) (k : ℕ)
 unfolding decideOf packetDecision
 packet-decided phase p image flash k c one most =
     let f = piece-facts p image (length flash) k c one most in
-    let total : countOf (length image) (p .size) < 256 ^ 2 = rw (c .whole) (omega (arith, c .cut .carried)) in
+    let total : countOf (length image) (p .size) < 256 ^ 2 = rw (c .whole) (omega (arith, c .cut .total-most)) in
     rw (
-      numbers-read image (p .size) k total (omega (arith, c .cut .carried, most)) (omega (arith, f .small)),
+      numbers-read image (p .size) k total (omega (arith, c .cut .total-most, most)) (omega (arith, f .small)),
       packet-long image (p .size) k,
       formed-yes _ (length (pieceOf image (p .size) k)) (record { some = f .some; most = f .small; long = refl }),
       data-read image (p .size) k,
@@ -170,7 +170,7 @@ waiting-some p n one = rw (ne-eqb n 0 (λ e. omega (arith, one, e)))
 -- Such a phase holds over a flash that the transfer fits.
 pub waiting-held : (p : Pieces) (image : List ℕ) (flash n : ℕ) → Carries p image flash → n < totalOf p → held (waiting p n) flash ≡ true
 waiting-held p image flash zero c less =
-    rw (waiting-none p) (flash-fits (p .transfer .kind) (p .transfer .length) flash (c .fitting))
+    rw (waiting-none p) (flash-fits (p .transfer .kind) (p .transfer .extent) flash (c .fitting))
 waiting-held p image flash (suc n) c less =
     rw (waiting-some p (suc n) (omega arith))
     (facts-loading p flash (suc n) (suc n * p .size)
@@ -178,12 +178,12 @@ waiting-held p image flash (suc n) c less =
 
 -- The numbers of the packet with a number that belongs to a transfer.
 abbrev numbersAt : Pieces → ℕ → Numbers
-numbersAt p k = record { total = totalOf p; number = k; size = sizeAt (p .transfer .length) (p .size) k }
+numbersAt p k = record { total = totalOf p; number = k; size = sizeAt (p .transfer .extent) (p .size) k }
 
 -- Packet 1 with these numbers is taken before any other, and the next one while loading.
 first-due : (p : Pieces) → Cut p → firstDecision (p .transfer) (numbersAt p 1) ≡ taken p 1 (p .size)
 first-due p c =
-    let n = p .transfer .length in
+    let n = p .transfer .extent in
     let size : sizeAt n (p .size) 1 ≡ p .size = size-first n (p .size) (c .some) (c .within) in
     let cut = cut-yes n (totalOf p) (p .size) (cut-length p c) (c .some) (record { count = refl; short = c .within }) in
     ap (λ (k : ℕ). firstDecision (p .transfer) (record { total = totalOf p; number = 1; size = k })) size
@@ -191,7 +191,7 @@ first-due p c =
 
 next-due : (p : Pieces) (number written : ℕ) (bytes flash : List ℕ)
     → loadingDecision p number written (numbersAt p (number + 1)) bytes flash
-    ≡ taken p (number + 1) (written + sizeAt (p .transfer .length) (p .size) (number + 1))
+    ≡ taken p (number + 1) (written + sizeAt (p .transfer .extent) (p .size) (number + 1))
 next-due p number written bytes flash =
     let given = numbersAt p (number + 1) in
     next-taken p number written given bytes flash
@@ -199,13 +199,13 @@ next-due p number written bytes flash =
 
 -- What has been written after the packet that is due.
 abbrev pub writtenWith : Pieces → ℕ → ℕ
-writtenWith p n = n * p .size + sizeAt (p .transfer .length) (p .size) (n + 1)
+writtenWith p n = n * p .size + sizeAt (p .transfer .extent) (p .size) (n + 1)
 
 -- The packet that is due is taken.
 due-taken : (p : Pieces) (n : ℕ) (bytes flash : List ℕ) → Cut p → n < totalOf p
     → phaseDecision (waiting p n) (numbersAt p (n + 1)) bytes flash ≡ taken p (n + 1) (writtenWith p n)
 due-taken p zero bytes flash c less =
-    let written : p .size ≡ writtenWith p 0 = omega (arith, size-first (p .transfer .length) (p .size) (c .some) (c .within), zero-mul (p .size)) in
+    let written : p .size ≡ writtenWith p 0 = omega (arith, size-first (p .transfer .extent) (p .size) (c .some) (c .within), zero-mul (p .size)) in
     rw (waiting-none p) (first-due p c ∙ ap (taken p 1) written)
 due-taken p (suc n) bytes flash c less =
     rw (waiting-some p (suc n) (omega arith)) (next-due p (suc n) (suc n * p .size) bytes flash)
@@ -223,15 +223,15 @@ pub taken-waits : (p : Pieces) (n : ℕ) → n + 1 < totalOf p → phaseAt p (n 
 unfolding phaseAt
 taken-waits p n less =
     let written : writtenWith p n ≡ (n + 1) * p .size =
-    rw (size-before (p .transfer .length) (p .size) (n + 1) less) (sym (product-more n (p .size))) in
+    rw (size-before (p .transfer .extent) (p .size) (n + 1) less) (sym (product-more n (p .size))) in
     rw (ne-eqb (n + 1) (totalOf p) (λ e. omega (arith, less, e)), written) (sym (waiting-some p (n + 1) (omega arith)))
 
-pub taken-done : (p : Pieces) (n : ℕ) → Cut p → n + 1 ≡ totalOf p → phaseAt p (n + 1) (writtenWith p n) ≡ Done p (p .transfer .length)
+pub taken-done : (p : Pieces) (n : ℕ) → Cut p → n + 1 ≡ totalOf p → phaseAt p (n + 1) (writtenWith p n) ≡ Done p (p .transfer .extent)
 unfolding phaseAt
 taken-done p n c last =
     let offset : n ≡ totalOf p - 1 = omega (arith, last) in
-    let written : writtenWith p n ≡ p .transfer .length =
-    rw (last, offset) (ends-with (p .transfer .length) (p .size) (cut-length p c) (c .some)) in
+    let written : writtenWith p n ≡ p .transfer .extent =
+    rw (last, offset) (ends-with (p .transfer .extent) (p .size) (cut-length p c) (c .some)) in
     rw (eq-eqb (n + 1) (totalOf p) last, written)
 
 -- ---- a packet that belongs
@@ -252,7 +252,7 @@ belongs-packet p number payload n k =
 pub record Confirms (d : Decision) (number : ℕ) : Type 0 where
   pub phase : Phase
   pub put : Put
-  pub is : d ≡ acknowledged phase number put
+  pub is : d ≡ acknowledgeOf phase number put
 
 -- The expected packet is confirmed,
 pub expected-confirmed : (phase : Phase) (p : Pieces) (number : ℕ) (payload flash : List ℕ) (n : ℕ) → Expects phase p number
@@ -261,9 +261,9 @@ expected-confirmed phase p number payload flash n (first e one) k =
     let given = numbersIn payload in
     let packet = belongs-packet p number payload n k in
     let size : given .size ≡ p .size =
-    packet .size ∙ ap (sizeAt (p .transfer .length) (p .size)) one ∙ size-first (p .transfer .length) (p .size) (k .cut .some) (k .cut .within) in
-    let cut = cut-yes (p .transfer .length) (given .total) (given .size) (cut-length p (k .cut)) (rw size (k .cut .some))
-    (record { count = packet .total ∙ ap (countOf (p .transfer .length)) (sym size); short = rw size (k .cut .within) }) in
+    packet .size ∙ ap (sizeAt (p .transfer .extent) (p .size)) one ∙ size-first (p .transfer .extent) (p .size) (k .cut .some) (k .cut .within) in
+    let cut = cut-yes (p .transfer .extent) (given .total) (given .size) (cut-length p (k .cut)) (rw size (k .cut .some))
+    (record { count = packet .total ∙ ap (countOf (p .transfer .extent)) (sym size); short = rw size (k .cut .within) }) in
     let decided = belongs-decided (Begun (p .transfer)) p number payload flash n k in
     rw (e, one) (record { phase = _; put = _; is = decided ∙ first-taken (p .transfer) given (packet .this ∙ one) cut })
 expected-confirmed phase p number payload flash n (later before written e next) k =

@@ -25,14 +25,14 @@ flashAfter p image flash n = laid flash (baseOf (p .transfer .kind)) (take (n * 
 
 -- The piece that is due is not empty and ends within the image.
 pub due-within : (p : Pieces) (n : ℕ) → Cut p → n < totalOf p
-    → (1 ≤ sizeAt (p .transfer .length) (p .size) (n + 1)) × (writtenWith p n ≤ p .transfer .length)
+    → (1 ≤ sizeAt (p .transfer .extent) (p .size) (n + 1)) × (writtenWith p n ≤ p .transfer .extent)
 due-within p n c less =
     let same : n + 1 - 1 ≡ n = omega arith in
-    let w = within (p .transfer .length) (p .size) (n + 1) (cut-length p c) (c .some) (omega arith) (omega (arith, less)) in
+    let w = within (p .transfer .extent) (p .size) (n + 1) (cut-length p c) (c .some) (omega arith) (omega (arith, less)) in
     (w .some, rw same at (w .inside))
 
 -- The packets before it hold less than the image.
-pub due-short : (p : Pieces) (n : ℕ) → Cut p → n < totalOf p → n * p .size < p .transfer .length
+pub due-short : (p : Pieces) (n : ℕ) → Cut p → n < totalOf p → n * p .size < p .transfer .extent
 due-short p n c less = let due = due-within p n c less in omega (arith, due .0, due .1)
 
 -- They are that many bytes, and leave the flash as long as it was.
@@ -84,4 +84,4 @@ pub last-says : (p : Pieces) (n : ℕ) → Cut p → n + 1 ≡ totalOf p
     → framesOf (taken p (n + 1) (writtenWith p n) .say) ≡ packetReply (totalOf p) accepted ∷ notice 0 ∷ []
 unfolding stateOf
 last-says p n c last =
-    rw (taken-done p n c last, eq-eqb (p .transfer .length) (p .transfer .length) refl, last)
+    rw (taken-done p n c last, eq-eqb (p .transfer .extent) (p .transfer .extent) refl, last)

@@ -24,9 +24,9 @@ use Rattle.module_model.specs.declared.rules.Decision.{Decision}
 
 -- All packets together are as long as the image.
 pub all-written : (p : Pieces) (number : ℕ) (payload : List ℕ) (flash : ℕ) → Belongs p number payload flash → number ≡ totalOf p
-    → offsetOf (p .size) number + length (dataIn payload) ≡ p .transfer .length
+    → offsetOf (p .size) number + length (dataIn payload) ≡ p .transfer .extent
 all-written p number payload flash k last =
-    let n = p .transfer .length in
+    let n = p .transfer .extent in
     let data-size : length (dataIn payload) ≡ sizeAt n (p .size) (totalOf p) = k .size-is ∙ ap (sizeAt n (p .size)) last in
     ap (λ (i : ℕ). offsetOf (p .size) i + length (dataIn payload)) last
     ∙ ap (λ (i : ℕ). offsetOf (p .size) (totalOf p) + i) data-size
@@ -37,7 +37,7 @@ pub advance-held : (p : Pieces) (number : ℕ) (payload : List ℕ) (flash : ℕ
     → held (phaseAt p number (offsetOf (p .size) number + length (dataIn payload))) flash ≡ true
 unfolding phaseAt
 advance-held p number payload flash k =
-    let n = p .transfer .length in
+    let n = p .transfer .extent in
     either-way (λ (phase : Phase). held phase flash ≡ true) (eqb number (totalOf p))
     (λ e. facts-done p flash _ (record {
       fitting = k .fitting;

@@ -23,7 +23,7 @@ use Rattle.commands.specs.Commands.{accepted, wrongFirst, wrongSecond, notUnder
 use Rattle.module_model.specs.Phases.{totalOf, fits, held}
 use Rattle.module_model.specs.PhasesLaws.{Cut, cut-total, loading-facts, done-facts}
 use Rattle.module_model.specs.Rules.{dataIn, unmoved, rateDecision, kindDecision, knownDecision, parametersDecision}
-use Rattle.module_model.specs.Rules.{restartDecision, numbersIn, wellFormed, notTaken, placeOf, isPacket, acknowledged, taken}
+use Rattle.module_model.specs.Rules.{restartDecision, numbersIn, wellFormed, notTaken, placeOf, isPacket, acknowledgeOf, taken}
 use Rattle.module_model.specs.Rules.{repeatDecision, firstDecision, loadingDecision, doneDecision, phaseDecision}
 use Rattle.module_model.specs.Rules.{packetDecision, decideOf, packetHead, parametersLength, typeField, lengthField, addressField}
 use Rattle.module_model.specs.RulesLaws.{formed, formed-yes, cut-into, PacketOf, packet-is, repeat-is}
@@ -55,13 +55,13 @@ pub record Formed (payload : List ℕ) : Type 0 where
 
 -- A packet of a transfer that fits the flash: number, Total and size are as they should be.
 pub record Belongs (p : Pieces) (number : ℕ) (payload : List ℕ) (flash : ℕ) : Type 0 where
-  pub fitting : FitsFlash (p .transfer .kind) (p .transfer .length) flash
+  pub fitting : FitsFlash (p .transfer .kind) (p .transfer .extent) flash
   pub cut : Cut p
   pub one : 1 ≤ number
   pub most : number ≤ totalOf p
   pub number-is : numberAt 2 payload 2 ≡ number
   pub total-is : numberAt 2 payload 0 ≡ totalOf p
-  pub size-is : length (dataIn payload) ≡ sizeAt (p .transfer .length) (p .size) number
+  pub size-is : length (dataIn payload) ≡ sizeAt (p .transfer .extent) (p .size) number
   pub form : Formed payload
 
 -- The phase expects this packet: the first after parameters, or the one behind those accepted.
@@ -72,19 +72,19 @@ pub data Expects (phase : Phase) (p : Pieces) (number : ℕ) : Type 0 where
 -- The phase has just accepted this packet, and there is more to come, or all is written.
 pub data Accepted (phase : Phase) (p : Pieces) (number : ℕ) : Type 0 where
   loading : (written : ℕ) → phase ≡ Loading p number written → number < totalOf p → Accepted phase p number
-  done : phase ≡ Done p (p .transfer .length) → number ≡ totalOf p → Accepted phase p number
+  done : phase ≡ Done p (p .transfer .extent) → number ≡ totalOf p → Accepted phase p number
 
 -- What a frame can do: nothing is accepted and the phase stays; restart; parameters; the expected packet; a repeat.
 pub data Outcome (phase : Phase) (command : ℕ) (payload flash : List ℕ) (d : Decision) : Type 0 where
   stays : (say : Say) → Plain say → d ≡ unmoved phase say → Outcome phase command payload flash d
   restarts : command ≡ restartCommand → d ≡ unmoved Closed (Restart accepted) → Outcome phase command payload flash d
-  begins : (t : Transfer) → command ≡ parametersCommand → kindOf (typeField payload) ≡ Is (t .kind) → lengthField payload ≡ t .length
-      → FitsFlash (t .kind) (t .length) (length flash) → d ≡ unmoved (Begun t) (Parameters accepted)
+  begins : (t : Transfer) → command ≡ parametersCommand → kindOf (typeField payload) ≡ Is (t .kind) → lengthField payload ≡ t .extent
+      → FitsFlash (t .kind) (t .extent) (length flash) → d ≡ unmoved (Begun t) (Parameters accepted)
       → Outcome phase command payload flash d
   advances : (p : Pieces) (number : ℕ) → command ≡ packetCommand → Expects phase p number → Belongs p number payload (length flash)
       → d ≡ taken p number (offsetOf (p .size) number + length (dataIn payload)) → Outcome phase command payload flash d
   repeats : (p : Pieces) (number : ℕ) → command ≡ packetCommand → Accepted phase p number → Belongs p number payload (length flash)
-      → dataIn payload ≡ partOf flash (placeOf p number) (length (dataIn payload)) → d ≡ acknowledged phase number Nowhere
+      → dataIn payload ≡ partOf flash (placeOf p number) (length (dataIn payload)) → d ≡ acknowledgeOf phase number Nowhere
       → Outcome phase command payload flash d
 
 -- ---- the commands, one by one
@@ -111,7 +111,7 @@ module _ (phase : Phase) (command : ℕ) (payload flash : List ℕ) where
   kind-outcome k c e =
       either-way Out (eqb (addressField payload) (tokenOf k))
       (λ t. either-way Out (fitsFlash k (lengthField payload) (length flash))
-      (λ f. begins (record { kind = k; length = lengthField payload }) c e refl (fits-flash k (lengthField payload) (length flash) f) refl)
+      (λ f. begins (record { kind = k; extent = lengthField payload }) c e refl (fits-flash k (lengthField payload) (length flash) f) refl)
       (λ f. plain (Parameters wrongSecond) (omega arith)))
       (λ t. plain (Parameters notUnderstood) (omega arith))
 
@@ -149,7 +149,7 @@ unfolding numbersIn
 total-short payload bytes = omega (arith, number-short 2 payload 0 bytes)
 
 -- A packet with the right numbers belongs to the transfer.
-belongs : (p : Pieces) (number : ℕ) (payload flash : List ℕ) → FitsFlash (p .transfer .kind) (p .transfer .length) (length flash)
+belongs : (p : Pieces) (number : ℕ) (payload flash : List ℕ) → FitsFlash (p .transfer .kind) (p .transfer .extent) (length flash)
     → Cut p → 1 ≤ number → number ≤ totalOf p → Formed payload → PacketOf p number (numbersIn payload)
     → Belongs p number payload (length flash)
 unfolding numbersIn
@@ -171,7 +171,7 @@ module _ (command : ℕ) (payload flash : List ℕ) (c : command ≡ packetComma
 
   -- A repeat, or not.
   repeat-outcome : (phase : Phase) (p : Pieces) (number : ℕ) → Accepted phase p number
-      → FitsFlash (p .transfer .kind) (p .transfer .length) (length flash) → Cut p → 1 ≤ number → number ≤ totalOf p
+      → FitsFlash (p .transfer .kind) (p .transfer .extent) (length flash) → Cut p → 1 ≤ number → number ≤ totalOf p
       → Outcome phase command payload flash (repeatDecision phase p number (numbersIn payload) (dataIn payload) flash)
   unfolding repeatDecision
   repeat-outcome phase p number behind fit cut one most =
@@ -189,22 +189,22 @@ module _ (command : ℕ) (payload flash : List ℕ) (c : command ≡ packetComma
   first-outcome t bytes held =
       either-way (Outcome (Begun t) command payload flash) _
       (λ r.
-      let fit = fits-flash (t .kind) (t .length) (length flash) held in
+      let fit = fits-flash (t .kind) (t .extent) (length flash) held in
       let given = numbersIn payload in
       let each = both (eqb (given .number) 1) _ r in
       let p : Pieces = record { transfer = t; size = given .size } in
       let some : 1 ≤ given .size = omega (arith, form .some, form .size-is) in
-      let into = cut-into (t .length) (given .total) (given .size) (fit .some) some (each .1) in
+      let into = cut-into (t .extent) (given .total) (given .size) (fit .some) some (each .1) in
       let cut : Cut p = record {
         some = some;
         small = omega (arith, form .most, form .size-is);
         within = into .short;
-        carried = omega (arith, into .count, total-short payload bytes);
+        total-most = omega (arith, into .count, total-short payload bytes);
       } in
       let packet : PacketOf p 1 given = record {
         this = eqb-true (given .number) 1 (each .0);
         total = into .count;
-        size = sym (size-first (t .length) (given .size) some (into .short));
+        size = sym (size-first (t .extent) (given .size) some (into .short));
       } in
       advances p 1 c (first refl refl) (belongs p 1 payload flash fit cut (omega arith) (cut-total p cut) form packet)
       (ap (taken p 1) (omega (arith, form .size-is))))

@@ -27,7 +27,7 @@ openable n = leb 1 n && leb n largestFlash
 
 -- The Total of a transfer whose packet size is set.
 abbrev pub totalOf : Pieces → ℕ
-totalOf p = countOf (p .transfer .length) (p .size)
+totalOf p = countOf (p .transfer .extent) (p .size)
 
 -- ---- which numbers can arise
 
@@ -37,11 +37,11 @@ alive flash idle = openable flash && leb idle longestIdle
 
 -- Its transfer passed the tests of its parameters.
 abbrev pub fits : Transfer → ℕ → Bool
-fits t flash = fitsFlash (t .kind) (t .length) flash
+fits t flash = fitsFlash (t .kind) (t .extent) flash
 
 -- The packet size passed the tests of packet 1: 1 to 1,024, not over the length, and a Total that two bytes can carry.
 unfoldable pub cuts : Pieces → Bool
-cuts p = leb 1 (p .size) && (leb (p .size) largestPacket && (leb (p .size) (p .transfer .length) && leb (totalOf p) largestTotal))
+cuts p = leb 1 (p .size) && (leb (p .size) largestPacket && (leb (p .size) (p .transfer .extent) && leb (totalOf p) largestTotal))
 
 -- While loading, packets 1 to number have been written, number being less than Total.
 unfoldable pub loadingArises : Pieces → ℕ → ℕ → ℕ → Bool
@@ -50,7 +50,7 @@ loadingArises p flash number written =
 
 -- When done, all of the length has been written.
 unfoldable pub doneArises : Pieces → ℕ → ℕ → Bool
-doneArises p flash written = fits (p .transfer) flash && (cuts p && eqb written (p .transfer .length))
+doneArises p flash written = fits (p .transfer) flash && (cuts p && eqb written (p .transfer .extent))
 
 -- What an open phase has gone through could arise over a flash.
 abbrev pub held : Phase → ℕ → Bool

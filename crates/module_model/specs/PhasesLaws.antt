@@ -73,20 +73,20 @@ closed-not-before flash = refl
 pub record Cut (p : Pieces) : Type 0 where
   pub some : 1 ≤ p .size
   pub small : p .size ≤ largestPacket
-  pub within : p .size ≤ p .transfer .length
-  pub carried : totalOf p ≤ largestTotal
+  pub within : p .size ≤ p .transfer .extent
+  pub total-most : totalOf p ≤ largestTotal
 
 pub cuts-facts : (p : Pieces) → cuts p ≡ true → Cut p
 unfolding cuts
 cuts-facts p h =
     let first = both (leb 1 (p .size)) _ h in
     let second = both (leb (p .size) largestPacket) _ (first .1) in
-    let third = both (leb (p .size) (p .transfer .length)) _ (second .1) in
+    let third = both (leb (p .size) (p .transfer .extent)) _ (second .1) in
     record {
       some = leb-true 1 (p .size) (first .0);
       small = leb-true (p .size) largestPacket (second .0);
-      within = leb-true (p .size) (p .transfer .length) (third .0);
-      carried = leb-true (totalOf p) largestTotal (third .1);
+      within = leb-true (p .size) (p .transfer .extent) (third .0);
+      total-most = leb-true (totalOf p) largestTotal (third .1);
     }
 
 pub facts-cuts : (p : Pieces) → Cut p → cuts p ≡ true
@@ -95,22 +95,22 @@ facts-cuts p c =
     rw (
       le-leb 1 (p .size) (c .some),
       le-leb (p .size) largestPacket (c .small),
-      le-leb (p .size) (p .transfer .length) (c .within),
-      le-leb (totalOf p) largestTotal (c .carried),
+      le-leb (p .size) (p .transfer .extent) (c .within),
+      le-leb (totalOf p) largestTotal (c .total-most),
     )
 
 -- The length is then not 0, and there is a packet.
-pub cut-length : (p : Pieces) → Cut p → 1 ≤ p .transfer .length
+pub cut-length : (p : Pieces) → Cut p → 1 ≤ p .transfer .extent
 cut-length p c = omega (arith, c .some, c .within)
 
 pub cut-total : (p : Pieces) → Cut p → 1 ≤ totalOf p
-cut-total p c = count-some (p .transfer .length) (p .size) (cut-length p c) (c .some)
+cut-total p c = count-some (p .transfer .extent) (p .size) (cut-length p c) (c .some)
 
 -- ---- loading and done
 
 -- While loading, the transfer fits, its size cuts it, and packets 1 to number, fewer than Total, have been written whole.
 pub record LoadingOf (p : Pieces) (flash number written : ℕ) : Type 0 where
-  pub fitting : FitsFlash (p .transfer .kind) (p .transfer .length) flash
+  pub fitting : FitsFlash (p .transfer .kind) (p .transfer .extent) flash
   pub cut : Cut p
   pub one : 1 ≤ number
   pub before : number < totalOf p
@@ -125,7 +125,7 @@ loading-facts p flash number written h =
     let third = both (leb 1 number) _ (second .1) in
     let fourth = both (ltb number (totalOf p)) _ (third .1) in
     record {
-      fitting = fits-flash (p .transfer .kind) (p .transfer .length) flash (first .0);
+      fitting = fits-flash (p .transfer .kind) (p .transfer .extent) flash (first .0);
       cut = cuts-facts p (second .0);
       one = leb-true 1 number (third .0);
       before = ltb-true number (totalOf p) (fourth .0);
@@ -137,7 +137,7 @@ pub facts-loading : (p : Pieces) (flash number written : ℕ) → LoadingOf p fl
 unfolding loadingArises
 facts-loading p flash number written l =
     rw (
-      flash-fits (p .transfer .kind) (p .transfer .length) flash (l .fitting),
+      flash-fits (p .transfer .kind) (p .transfer .extent) flash (l .fitting),
       facts-cuts p (l .cut),
       le-leb 1 number (l .one),
       lt-ltb number (totalOf p) (l .before),
@@ -145,17 +145,17 @@ facts-loading p flash number written l =
     )
 
 -- What has been written while loading is less than the length.
-pub loading-short : (p : Pieces) (flash number written : ℕ) → LoadingOf p flash number written → written < p .transfer .length
+pub loading-short : (p : Pieces) (flash number written : ℕ) → LoadingOf p flash number written → written < p .transfer .extent
 loading-short p flash number written l =
     let total = totalOf p in
     let held : number * p .size ≤ (total - 1) * p .size = mul-le-mul-right (p .size) (omega (arith, l .before)) in
-    omega (arith, l .all, held, counted (p .transfer .length) (p .size) (cut-length p (l .cut)) (l .cut .some) .under)
+    omega (arith, l .all, held, counted (p .transfer .extent) (p .size) (cut-length p (l .cut)) (l .cut .some) .under)
 
 -- When done, the transfer fits, its size cuts it, and all of its length has been written.
 pub record DoneOf (p : Pieces) (flash written : ℕ) : Type 0 where
-  pub fitting : FitsFlash (p .transfer .kind) (p .transfer .length) flash
+  pub fitting : FitsFlash (p .transfer .kind) (p .transfer .extent) flash
   pub cut : Cut p
-  pub all : written ≡ p .transfer .length
+  pub all : written ≡ p .transfer .extent
 
 pub done-facts : (p : Pieces) (flash written : ℕ) → doneArises p flash written ≡ true → DoneOf p flash written
 unfolding doneArises
@@ -163,18 +163,18 @@ done-facts p flash written h =
     let first = both (fits (p .transfer) flash) _ h in
     let second = both (cuts p) _ (first .1) in
     record {
-      fitting = fits-flash (p .transfer .kind) (p .transfer .length) flash (first .0);
+      fitting = fits-flash (p .transfer .kind) (p .transfer .extent) flash (first .0);
       cut = cuts-facts p (second .0);
-      all = eqb-true written (p .transfer .length) (second .1);
+      all = eqb-true written (p .transfer .extent) (second .1);
     }
 
 pub facts-done : (p : Pieces) (flash written : ℕ) → DoneOf p flash written → doneArises p flash written ≡ true
 unfolding doneArises
 facts-done p flash written d =
     rw (
-      flash-fits (p .transfer .kind) (p .transfer .length) flash (d .fitting),
+      flash-fits (p .transfer .kind) (p .transfer .extent) flash (d .fitting),
       facts-cuts p (d .cut),
-      eq-eqb written (p .transfer .length) (d .all),
+      eq-eqb written (p .transfer .extent) (d .all),
     )
 
 -- ---- the numbers are small
@@ -202,7 +202,7 @@ held-bounded (Loading p number written) flash h =
     let l = loading-facts p flash number written h in
     record {
       one = l .one;
-      most = omega (arith, l .before, l .cut .carried);
+      most = omega (arith, l .before, l .cut .total-most);
       small = l .cut .small;
       short = omega (arith, loading-short p flash number written l, l .fitting .short);
     }
@@ -210,7 +210,7 @@ held-bounded (Done p written) flash h =
     let d = done-facts p flash written h in
     record {
       one = cut-total p (d .cut);
-      most = d .cut .carried;
+      most = d .cut .total-most;
       small = d .cut .small;
       short = omega (arith, d .all, d .fitting .short);
     }

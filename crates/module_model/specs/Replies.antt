@@ -52,7 +52,7 @@ pub record Declaring (fs : List wire.Frame) : Type 0 where
   pub no-notice : List·Memᴰ (notice 0) fs → ⊥
 
 -- Frames that acknowledge this packet, no other one, and no parameters.
-pub record Acknowledging (number : ℕ) (fs : List wire.Frame) : Type 0 where
+pub record PacketSaid (number : ℕ) (fs : List wire.Frame) : Type 0 where
   pub says : List·Memᴰ (packetReply number accepted) fs
   pub only : (k : ℕ) → k ≤ largestTotal → List·Memᴰ (packetReply k accepted) fs → k ≡ number
   pub no-parameters : (most : ℕ) → List·Memᴰ (parametersReply most accepted) fs → ⊥
@@ -104,7 +104,7 @@ begun-declaring = record {
 
 -- An accepted packet and notices behind it acknowledge this packet.
 acknowledging : (number : ℕ) (rest : List wire.Frame) → number ≤ largestTotal
-    → ((f : wire.Frame) → List·Memᴰ f rest → f .command ≡ noticeCommand) → Acknowledging number (packetReply number accepted ∷ rest)
+    → ((f : wire.Frame) → List·Memᴰ f rest → f .command ≡ noticeCommand) → PacketSaid number (packetReply number accepted ∷ rest)
 acknowledging number rest most notices = record {
   says = List·Memᴰ·head refl;
   only = λ k short m.
@@ -121,7 +121,7 @@ acknowledging number rest most notices = record {
 }
 
 -- What is said of an accepted packet acknowledges it, in any phase.
-pub packet-said : (phase : Phase) (number : ℕ) → number ≤ largestTotal → Acknowledging number (framesOf (sayOf phase number))
+pub packet-said : (phase : Phase) (number : ℕ) → number ≤ largestTotal → PacketSaid number (framesOf (sayOf phase number))
 packet-said Closed number most = acknowledging number [] most (λ f m. absurd (List·Memᴰ·not-nil m))
 packet-said Ready number most = acknowledging number [] most (λ f m. absurd (List·Memᴰ·not-nil m))
 packet-said (Begun t) number most = acknowledging number [] most (λ f m. absurd (List·Memᴰ·not-nil m))
@@ -140,4 +140,4 @@ notice-last phase p number (done e last) m = last
 pub last-notice : (phase : Phase) (p : Pieces) (number : ℕ) → Accepted phase p number → number ≡ totalOf p
     → List·Memᴰ (notice 0) (framesOf (sayOf phase number))
 last-notice phase p number (loading written e before) last = absurd (omega (arith, last))
-last-notice phase p number (done e is) last = rw (e, state-whole p (p .transfer .length) refl) (List·Memᴰ·tail (List·Memᴰ·head refl))
+last-notice phase p number (done e is) last = rw (e, state-whole p (p .transfer .extent) refl) (List·Memᴰ·tail (List·Memᴰ·head refl))

@@ -83,7 +83,7 @@ unfoldable pub kindDecision : Phase → Kind → List ℕ → ℕ → Decision
 kindDecision phase kind payload flash =
     cond (eqb (addressField payload) (tokenOf kind))
     (cond (fitsFlash kind (lengthField payload) flash)
-    (unmoved (Begun (record { kind = kind; length = lengthField payload })) (Parameters accepted))
+    (unmoved (Begun (record { kind = kind; extent = lengthField payload })) (Parameters accepted))
     (unmoved phase (Parameters wrongSecond)))
     (unmoved phase (Parameters notUnderstood))
 
@@ -127,7 +127,7 @@ placeOf p number = baseOf (p .transfer .kind) + offsetOf (p .size) number
 -- A packet has this number, the transfer's Total, and the size that belongs to the number.
 unfoldable pub isPacket : Pieces → ℕ → Numbers → Bool
 isPacket p number given =
-    eqb (given .number) number && (eqb (given .total) (totalOf p) && eqb (given .size) (sizeAt (p .transfer .length) (p .size) number))
+    eqb (given .number) number && (eqb (given .total) (totalOf p) && eqb (given .size) (sizeAt (p .transfer .extent) (p .size) number))
 
 -- A repeat is such a packet with the bytes that are in the flash.
 unfoldable pub isRepeat : Pieces → ℕ → Numbers → List ℕ → List ℕ → Bool
@@ -145,7 +145,7 @@ abbrev pub stateShort : ℕ
 stateShort = 0x01
 
 unfoldable pub stateOf : Pieces → ℕ → ℕ
-stateOf p written = cond (eqb written (p .transfer .length)) stateWhole stateShort
+stateOf p written = cond (eqb written (p .transfer .extent)) stateWhole stateShort
 
 -- The acknowledgement of a packet, with the notice behind it when the transfer is done.
 abbrev pub sayOf : Phase → ℕ → Say
@@ -155,22 +155,22 @@ sayOf (Begun t) number = Packet number accepted
 sayOf (Loading p n written) number = Packet number accepted
 sayOf (Done p written) number = Last number (stateOf p written)
 
-abbrev pub acknowledged : Phase → ℕ → Put → Decision
-acknowledged phase number put = record { phase = phase; say = sayOf phase number; put = put }
+abbrev pub acknowledgeOf : Phase → ℕ → Put → Decision
+acknowledgeOf phase number put = record { phase = phase; say = sayOf phase number; put = put }
 
 -- An accepted packet is written at its place, and the session moves on.
 abbrev pub taken : Pieces → ℕ → ℕ → Decision
-taken p number written = acknowledged (phaseAt p number written) number (At (placeOf p number))
+taken p number written = acknowledgeOf (phaseAt p number written) number (At (placeOf p number))
 
 -- A repeat is acknowledged again, nothing put; any other packet is refused.
 unfoldable pub repeatDecision : Phase → Pieces → ℕ → Numbers → List ℕ → List ℕ → Decision
 repeatDecision phase p number given bytes flash =
-    cond (isRepeat p number given bytes flash) (acknowledged phase number Nowhere) (notTaken phase)
+    cond (isRepeat p number given bytes flash) (acknowledgeOf phase number Nowhere) (notTaken phase)
 
 -- Before packet 1 only packet 1 is taken; there is no repeat.
 unfoldable pub firstDecision : Transfer → Numbers → Decision
 firstDecision t given =
-    cond (eqb (given .number) 1 && cutsInto (t .length) (given .total) (given .size))
+    cond (eqb (given .number) 1 && cutsInto (t .extent) (given .total) (given .size))
     (taken (record { transfer = t; size = given .size }) 1 (given .size))
     (notTaken (Begun t))
 

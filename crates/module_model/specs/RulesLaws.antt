@@ -23,7 +23,7 @@ use Rattle.module_model.specs.Phases.{totalOf}
 use Rattle.module_model.specs.Rules.{packetHead, parametersLength, typeField, lengthField, addressField, stateWhole, stateShort}
 use Rattle.module_model.specs.Rules.{unmoved, rateAck, rateDecision, kindDecision, knownDecision, parametersDecision}
 use Rattle.module_model.specs.Rules.{restartDecision, numbersIn, wellFormed, dataIn, notTaken, cutsInto, placeOf, isPacket}
-use Rattle.module_model.specs.Rules.{isRepeat, phaseAt, stateOf, acknowledged, taken, repeatDecision, firstDecision}
+use Rattle.module_model.specs.Rules.{isRepeat, phaseAt, stateOf, acknowledgeOf, taken, repeatDecision, firstDecision}
 use Rattle.module_model.specs.Rules.{loadingDecision, doneDecision, phaseDecision, packetDecision, decideOf}
 use Rattle.module_model.specs.declared.phases.Transfer.{Transfer}
 use Rattle.module_model.specs.declared.phases.Pieces.{Pieces}
@@ -69,7 +69,7 @@ rate-other phase payload h = cond-no _ _ _ (ne-eqb (length payload) 1 h)
 pub kind-begins : (phase : Phase) (kind : Kind) (payload : List ℕ) (flash : ℕ) → addressField payload ≡ tokenOf kind
     → fitsFlash kind (lengthField payload) flash ≡ true
     → kindDecision phase kind payload flash
-    ≡ unmoved (Begun (record { kind = kind; length = lengthField payload })) (Parameters accepted)
+    ≡ unmoved (Begun (record { kind = kind; extent = lengthField payload })) (Parameters accepted)
 unfolding kindDecision
 kind-begins phase kind payload flash h k = cond-yes _ _ _ (eq-eqb (addressField payload) (tokenOf kind) h) ∙ cond-yes _ _ _ k
 
@@ -177,13 +177,13 @@ cut-yes n total size h k c = go (ℕ-discrete total 1)
 pub record PacketOf (p : Pieces) (number : ℕ) (given : Numbers) : Type 0 where
   pub this : given .number ≡ number
   pub total : given .total ≡ totalOf p
-  pub size : given .size ≡ sizeAt (p .transfer .length) (p .size) number
+  pub size : given .size ≡ sizeAt (p .transfer .extent) (p .size) number
 
 -- The test says just these three facts.
 pub packet-is : (p : Pieces) (number : ℕ) (given : Numbers) → isPacket p number given ≡ true → PacketOf p number given
 unfolding isPacket
 packet-is p number given h =
-    let size = sizeAt (p .transfer .length) (p .size) number in
+    let size = sizeAt (p .transfer .extent) (p .size) number in
     let first = both (eqb (given .number) number) _ h in
     let rest = both (eqb (given .total) (totalOf p)) _ (first .1) in
     record {
@@ -198,7 +198,7 @@ packet-yes p number given f =
     rw (
       eq-eqb (given .number) number (f .this),
       eq-eqb (given .total) (totalOf p) (f .total),
-      eq-eqb (given .size) (sizeAt (p .transfer .length) (p .size) number) (f .size),
+      eq-eqb (given .size) (sizeAt (p .transfer .extent) (p .size) number) (f .size),
     )
 
 pub packet-no : (p : Pieces) (number : ℕ) (given : Numbers) → (PacketOf p number given → ⊥) → isPacket p number given ≡ false
@@ -206,7 +206,7 @@ packet-no p number given h = not-eq-not .0 (λ e. h (packet-is p number given e)
 
 -- With the right number and Total the size decides.
 pub packet-size : (p : Pieces) (number : ℕ) (given : Numbers) → given .number ≡ number → given .total ≡ totalOf p
-    → isPacket p number given ≡ eqb (given .size) (sizeAt (p .transfer .length) (p .size) number)
+    → isPacket p number given ≡ eqb (given .size) (sizeAt (p .transfer .extent) (p .size) number)
 unfolding isPacket
 packet-size p number given h k = rw (eq-eqb (given .number) number h, eq-eqb (given .total) (totalOf p) k)
 
@@ -262,13 +262,13 @@ unfolding phaseAt
 phase-before p number written h = cond-no _ _ _ (ne-eqb number (totalOf p) h)
 
 -- The State is 0 where all of the length is written, else 1.
-pub state-whole : (p : Pieces) (written : ℕ) → written ≡ p .transfer .length → stateOf p written ≡ stateWhole
+pub state-whole : (p : Pieces) (written : ℕ) → written ≡ p .transfer .extent → stateOf p written ≡ stateWhole
 unfolding stateOf
-state-whole p written h = rw (eq-eqb written (p .transfer .length) h)
+state-whole p written h = rw (eq-eqb written (p .transfer .extent) h)
 
-pub state-other : (p : Pieces) (written : ℕ) → (written ≡ p .transfer .length → ⊥) → stateOf p written ≡ stateShort
+pub state-other : (p : Pieces) (written : ℕ) → (written ≡ p .transfer .extent → ⊥) → stateOf p written ≡ stateShort
 unfolding stateOf
-state-other p written h = rw (ne-eqb written (p .transfer .length) h)
+state-other p written h = rw (ne-eqb written (p .transfer .extent) h)
 
 -- A packet's place is far below what a number can hold.
 pub place-small : (p : Pieces) (number : ℕ) → 1 ≤ number → number ≤ largestTotal + 1 → p .size ≤ largestPacket
@@ -281,7 +281,7 @@ place-small p number one most small =
 -- A repeat is acknowledged and nothing put, any other packet refused.
 pub repeat-taken : (phase : Phase) (p : Pieces) (number : ℕ) (given : Numbers) (bytes flash : List ℕ)
     → isRepeat p number given bytes flash ≡ true
-    → repeatDecision phase p number given bytes flash ≡ acknowledged phase number Nowhere
+    → repeatDecision phase p number given bytes flash ≡ acknowledgeOf phase number Nowhere
 unfolding repeatDecision
 repeat-taken phase p number given bytes flash h = cond-yes _ _ _ h
 
@@ -291,22 +291,22 @@ unfolding repeatDecision
 repeat-refused phase p number given bytes flash h = cond-no _ _ _ h
 
 -- Before packet 1: packet 1 with a size that cuts the length into its Total is taken, any other packet refused.
-pub first-taken : (t : Transfer) (given : Numbers) → given .number ≡ 1 → cutsInto (t .length) (given .total) (given .size) ≡ true
+pub first-taken : (t : Transfer) (given : Numbers) → given .number ≡ 1 → cutsInto (t .extent) (given .total) (given .size) ≡ true
     → firstDecision t given ≡ taken (record { transfer = t; size = given .size }) 1 (given .size)
 unfolding firstDecision
 first-taken t given h k =
-    cond-yes (eqb (given .number) 1 && cutsInto (t .length) (given .total) (given .size)) _ _ (rw (eq-eqb (given .number) 1 h) k)
+    cond-yes (eqb (given .number) 1 && cutsInto (t .extent) (given .total) (given .size)) _ _ (rw (eq-eqb (given .number) 1 h) k)
 
 pub first-number : (t : Transfer) (given : Numbers) → (given .number ≡ 1 → ⊥) → firstDecision t given ≡ notTaken (Begun t)
 unfolding firstDecision
 first-number t given h =
-    cond-no (eqb (given .number) 1 && cutsInto (t .length) (given .total) (given .size)) _ _ (rw (ne-eqb (given .number) 1 h))
+    cond-no (eqb (given .number) 1 && cutsInto (t .extent) (given .total) (given .size)) _ _ (rw (ne-eqb (given .number) 1 h))
 
-pub first-refused : (t : Transfer) (given : Numbers) → given .number ≡ 1 → cutsInto (t .length) (given .total) (given .size) ≡ false
+pub first-refused : (t : Transfer) (given : Numbers) → given .number ≡ 1 → cutsInto (t .extent) (given .total) (given .size) ≡ false
     → firstDecision t given ≡ notTaken (Begun t)
 unfolding firstDecision
 first-refused t given h k =
-    cond-no (eqb (given .number) 1 && cutsInto (t .length) (given .total) (given .size)) _ _ (rw (eq-eqb (given .number) 1 h) k)
+    cond-no (eqb (given .number) 1 && cutsInto (t .extent) (given .total) (given .size)) _ _ (rw (eq-eqb (given .number) 1 h) k)
 
 -- While loading: the next packet is taken, any other is looked at as a repeat.
 pub next-taken : (p : Pieces) (number written : ℕ) (given : Numbers) (bytes flash : List ℕ) → isPacket p (number + 1) given ≡ true

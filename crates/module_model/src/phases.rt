@@ -8,10 +8,10 @@ pub const LONGEST_IDLE: u32 = 7000;
 
 pub const CLOSING_IDLE: u32 = 7001;
 
-// What accepted parameters declare.
+// What accepted parameters declare: the type, and how many bytes the image has.
 pub struct Transfer {
     pub kind: Kind,
-    pub length: usize,
+    pub extent: usize,
 }
 
 // A transfer with the packet size that packet 1 has set. Total follows from both.

@@ -62,7 +62,7 @@ frame-arises : (s : Session) (command : ℕ) (payload flash : List ℕ) (d : Dec
 frame-arises s command payload flash d t size (stays say h e) = rw e (anew-arises s (s .phase) t (takes-facts s t .1))
 frame-arises s command payload flash d t size (restarts c e) = rw e (closed-arises (s .flash) 0 (closed-at-0 (s .flash)))
 frame-arises s command payload flash d t size (begins tr c k n f e) =
-    rw e (anew-arises s (Begun tr) t (flash-fits (tr .kind) (tr .length) (s .flash) (rw size at f)))
+    rw e (anew-arises s (Begun tr) t (flash-fits (tr .kind) (tr .extent) (s .flash) (rw size at f)))
 frame-arises s command payload flash d t size (advances p number c x k e) =
     rw e (anew-arises s _ t (advance-held p number payload (s .flash) (rw size at k)))
 frame-arises s command payload flash d t size (repeats p number c x k same e) = rw e (anew-arises s (s .phase) t (takes-facts s t .1))

@@ -251,7 +251,7 @@ cut-succeeds s flash kind image size os t long fits within-image h =
     record {
       whole = refl;
       fitting = fits .fitting;
-      cut = record { some = fits .size-some; small = fits .size-most; within = within-image; carried = fits .total-most };
+      cut = record { some = fits .size-some; small = fits .size-most; within = within-image; total-most = fits .total-most };
     } in
     let most : length flash ≤ largestFlash = omega (arith, long, takes-facts s t .0 .most) in
     let w = pause-waits s flash (s .idle) (h .pause) t long (omega arith) (h .paused) in

@@ -60,8 +60,8 @@ accepted-data : (history : List Exchange) (p : Pieces) (payload : List ℕ) (fla
 accepted-data history p payload flash h k =
     let r = h .track in
     let d = r .declared in
-    let n = p .transfer .length in
-    let short : numberAt 2 payload 0 ≤ largestTotal = omega (arith, k .total-is, k .cut .carried) in
+    let n = p .transfer .extent in
+    let short : numberAt 2 payload 0 ≤ largestTotal = omega (arith, k .total-is, k .cut .total-most) in
     record {
       count = r .loaded .count ∙ sym (k .total-is);
       first = λ y i one most. r .loaded .first y i one (omega (arith, most, short));
@@ -90,7 +90,7 @@ holds-image before x p payload flash h taken k nobody =
     ∙ kept-last lent (r .parameters) (r .since) (rw here taken)
     ∙ ap (λ (y : Exchange). y .left .flash) here in
     record {
-      each = λ y m i one most. stand .each y m i one (omega (arith, most, k .total-is, k .cut .carried));
+      each = λ y m i one most. stand .each y m i one (omega (arith, most, k .total-is, k .cut .total-most));
       image = sym kept ∙ stand .image ∙ ap (λ (b : ℕ). laid lent b (joined (h .pieces))) (sym (base-is (r .parameters) (p .transfer) d));
     }
 
@@ -114,7 +114,7 @@ success-holds o gs g all bytes says =
 
 -- A place in the range of the transfer under way.
 track-range : (history : List Exchange) (t : Transfer) (number : ℕ) (pieces : List (List ℕ)) → Track history t number pieces → (i : ℕ)
-    → baseOf (t .kind) ≤ i → i < baseOf (t .kind) + t .length → InRange history i
+    → baseOf (t .kind) ≤ i → i < baseOf (t .kind) + t .extent → InRange history i
 track-range history t number pieces r i low high = record {
   parameters = r .parameters;
   since = r .since;
@@ -125,7 +125,7 @@ track-range history t number pieces r i low high = record {
 
 -- It is under way where a packet of it is expected.
 expects-range : (history : List Exchange) (phase : Phase) (p : Pieces) (number : ℕ) → Tracked history phase → Expects phase p number
-    → (i : ℕ) → baseOf (p .transfer .kind) ≤ i → i < baseOf (p .transfer .kind) + p .transfer .length → InRange history i
+    → (i : ℕ) → baseOf (p .transfer .kind) ≤ i → i < baseOf (p .transfer .kind) + p .transfer .extent → InRange history i
 expects-range history phase p number h (first e one) =
     let begun : Track history (p .transfer) 0 [] = rw e at h in track-range history (p .transfer) 0 [] begun
 expects-range history phase p number h (later before written e next) =
@@ -162,13 +162,13 @@ step-range history s g bytes h = go (turn-of s g bytes)
     go (writes p number a expects put) =
         let k = a .belongs in
         let place = placeOf p number in
-        let carried = dataIn (payloadOf g) in
-        let ends : place + length carried ≤ baseOf (p .transfer .kind) + p .transfer .length =
+        let piece = dataIn (payloadOf g) in
+        let ends : place + length piece ≤ baseOf (p .transfer .kind) + p .transfer .extent =
         omega (arith, k .size-is, piece-within p number (payloadOf g) (length (g .flash)) k .inside) in
-        let fits : place + length carried ≤ length (g .flash) = omega (arith, ends, k .fitting .inside) in (
-          ap length put ∙ laid-length (g .flash) place carried fits,
+        let fits : place + length piece ≤ length (g .flash) = omega (arith, ends, k .fitting .inside) in (
+          ap length put ∙ laid-length (g .flash) place piece fits,
           λ i differs.
-              let there = laid-there (g .flash) place carried fits i (λ e. differs (ap (λ (l : List ℕ). getD l i 0) put ∙ e)) in
+              let there = laid-there (g .flash) place piece fits i (λ e. differs (ap (λ (l : List ℕ). getD l i 0) put ∙ e)) in
               expects-range history (s .phase) p number h expects i (omega (arith, there .0)) (omega (arith, there .1, ends)),
         )
 

@@ -83,8 +83,9 @@ pub record Success (s : Session) (history : List Exchange) (x : Exchange) : Type
   pub not-refused : isRefused (x .left .answer) ≡ false
 
 -- M1 (Success.antt). Over any run from any opening, with any flash and any reply buffer lent at each step, the notice of State 0 is
--- in a reply exactly when the event is the last packet or its repeat and each of 1 to Total has been acknowledged since the last
--- accepted parameters. Acceptance is read off replies.
+-- in a reply exactly when the event is the last packet or its repeat, acknowledged, and each of 1 to Total has been acknowledged since
+-- the last accepted parameters. Acceptance is read off replies. When the module acknowledges is said below: ExpectedSucceeds and
+-- RepeatSucceeds.
 abbrev pub SuccessExactlyOf : Step → Type 0
 SuccessExactlyOf step =
     (o : Opening) (gs : List Given) (g : Given) → AllBytes gs → Bytes (g .payload)
@@ -108,16 +109,18 @@ baseIn parameters = baseBy (kindOf (typeField (payloadOf (parameters .given))))
 abbrev pub lengthIn : Exchange → ℕ
 lengthIn parameters = lengthField (payloadOf (parameters .given))
 
--- The expected packet since parameters, read off frames and replies: the size s of packet 1 cuts the declared length into Total pieces;
--- packets 1 to k - 1 have been acknowledged, k has not.
+-- The expected packet k since parameters, read off frames and replies:
 pub record Expected (parameters : Exchange) (since : List Exchange) (s k : ℕ) : Type 0 where
+  -- a size s of 1 to 1,024, not over the declared length, cuts it into at most 65,535 packets, of which k is one;
   pub size-some : 1 ≤ s
   pub size-most : s ≤ largestPacket
   pub size-short : s ≤ lengthIn parameters
   pub total-most : countOf (lengthIn parameters) s ≤ largestTotal
   pub some : 1 ≤ k
   pub most : k ≤ countOf (lengthIn parameters) s
+  -- packet 1, where it was acknowledged, set this size;
   pub size-set : (x : Exchange) → List·Memᴰ x since → Says x (packetReply 1 accepted) → length (dataIn (payloadOf (x .given))) ≡ s
+  -- packets 1 to k - 1 have been acknowledged, k has not.
   pub before : (i : ℕ) → 1 ≤ i → i < k → Acknowledged i since
   pub not-yet : Acknowledged k since → ⊥
 

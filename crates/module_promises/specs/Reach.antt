@@ -112,14 +112,14 @@ ready-takes n can =
 -- ---- open sessions
 
 -- Parameters that fit, over a flash that can be opened.
-reach-begun : (t : Transfer) (flash : ℕ) → openable flash ≡ true → FitsFlash (t .kind) (t .length) flash
+reach-begun : (t : Transfer) (flash : ℕ) → openable flash ≡ true → FitsFlash (t .kind) (t .extent) flash
     → Reached stepOf (session flash 0 (Begun t))
 reach-begun t flash can f =
-    let image = zeros (t .length) in
+    let image = zeros (t .extent) in
     let payload = parametersFor (t .kind) (length image) in
-    let fits : FitsFlash (t .kind) (length image) (length (zeros flash)) = rw (zeros-long (t .length), zeros-long flash) f in
+    let fits : FitsFlash (t .kind) (length image) (length (zeros flash)) = rw (zeros-long (t .extent), zeros-long flash) f in
     let decides : decideOf Ready parametersCommand payload (zeros flash) .phase ≡ Begun t =
-    rw (parameters-accepted Ready (t .kind) image (zeros flash) fits, zeros-long (t .length)) in
+    rw (parameters-accepted Ready (t .kind) image (zeros flash) fits, zeros-long (t .extent)) in
     let rest = bytes-append (spelled 4 (length image)) _ (bytes-spelled 4 (length image)) (bytes-spelled 4 (tokenOf (t .kind))) in
     let b : Bytes payload = bytes-append (spelled 2 (numberOf (t .kind))) _ (bytes-spelled 2 (numberOf (t .kind))) rest in
     reach-frame (session flash 0 Ready) parametersCommand payload (Begun t) (ready-takes flash can) (omega arith) b decides
@@ -135,27 +135,27 @@ packet-bytes image size k b =
     bytes-append (spelled 2 (countOf (length image) size)) _ (bytes-spelled 2 (countOf (length image) size)) with-number
 
 -- A transfer of zeros.
-zeros-carried : (p : Pieces) (flash : ℕ) → FitsFlash (p .transfer .kind) (p .transfer .length) flash → Cut p
-    → Carries p (zeros (p .transfer .length)) flash
-zeros-carried p flash f c = record { whole = zeros-long (p .transfer .length); fitting = f; cut = c }
+zeros-carried : (p : Pieces) (flash : ℕ) → FitsFlash (p .transfer .kind) (p .transfer .extent) flash → Cut p
+    → Carries p (zeros (p .transfer .extent)) flash
+zeros-carried p flash f c = record { whole = zeros-long (p .transfer .extent); fitting = f; cut = c }
 
 -- The packet that is due leads from a phase that waits to the phase with it.
 reach-packet : (p : Pieces) (flash n : ℕ) (phase : Phase) → openable flash ≡ true
-    → FitsFlash (p .transfer .kind) (p .transfer .length) flash → Cut p → n < totalOf p
+    → FitsFlash (p .transfer .kind) (p .transfer .extent) flash → Cut p → n < totalOf p
     → phaseAt p (n + 1) (writtenWith p n) ≡ phase → Reached stepOf (session flash 0 (waiting p n)) → Reached stepOf (session flash 0 phase)
 reach-packet p flash n phase can f c less e h =
-    let image = zeros (p .transfer .length) in
+    let image = zeros (p .transfer .extent) in
     let payload = packetFor image (p .size) (n + 1) in
     let carries = zeros-carried p flash f c in
     let over-zeros : Carries p image (length (zeros flash)) = rw (zeros-long flash) carries in
     let decides : decideOf (waiting p n) packetCommand payload (zeros flash) .phase ≡ phase =
     rw (packet-taken p image (zeros flash) n over-zeros less) e in
     let t = waiting-takes p image flash n carries less (openable-sizes flash can .1) in
-    let b = packet-bytes image (p .size) (n + 1) (bytes-replicate (p .transfer .length) 0 (omega arith)) in
+    let b = packet-bytes image (p .size) (n + 1) (bytes-replicate (p .transfer .extent) 0 (omega arith)) in
     reach-frame (session flash 0 (waiting p n)) packetCommand payload phase t (omega arith) b decides h
 
 -- Every phase that waits is reached, packet by packet.
-reach-waiting : (p : Pieces) (flash n : ℕ) → openable flash ≡ true → FitsFlash (p .transfer .kind) (p .transfer .length) flash → Cut p
+reach-waiting : (p : Pieces) (flash n : ℕ) → openable flash ≡ true → FitsFlash (p .transfer .kind) (p .transfer .extent) flash → Cut p
     → n < totalOf p → Reached stepOf (session flash 0 (waiting p n))
 reach-waiting p flash zero can f c less = rw (waiting-none p) (reach-begun (p .transfer) flash can f)
 reach-waiting p flash (suc n) can f c less =
@@ -165,20 +165,20 @@ reach-waiting p flash (suc n) can f c less =
     reach-packet p flash n (waiting p (suc n)) can f c before next (reach-waiting p flash n can f c before)
 
 -- With packet Total the transfer is done.
-reach-done : (p : Pieces) (flash : ℕ) → openable flash ≡ true → FitsFlash (p .transfer .kind) (p .transfer .length) flash → Cut p
-    → Reached stepOf (session flash 0 (Done p (p .transfer .length)))
+reach-done : (p : Pieces) (flash : ℕ) → openable flash ≡ true → FitsFlash (p .transfer .kind) (p .transfer .extent) flash → Cut p
+    → Reached stepOf (session flash 0 (Done p (p .transfer .extent)))
 reach-done p flash can f c =
     let n = totalOf p - 1 in
     let some = cut-total p c in
     let less : n < totalOf p = omega (arith, some) in
-    reach-packet p flash n (Done p (p .transfer .length)) can f c less (taken-done p n c (omega (arith, some)))
+    reach-packet p flash n (Done p (p .transfer .extent)) can f c less (taken-done p n c (omega (arith, some)))
     (reach-waiting p flash n can f c less)
 
 -- Every phase that holds.
 reach-held : (phase : Phase) (flash : ℕ) → openable flash ≡ true → held phase flash ≡ true → Reached stepOf (session flash 0 phase)
 reach-held Closed flash can h = absurd (false≢true h)
 reach-held Ready flash can h = reach-ready flash can
-reach-held (Begun t) flash can h = reach-begun t flash can (fits-flash (t .kind) (t .length) flash h)
+reach-held (Begun t) flash can h = reach-begun t flash can (fits-flash (t .kind) (t .extent) flash h)
 reach-held (Loading p number written) flash can h =
     let l = loading-facts p flash number written h in
     let waits : waiting p number ≡ Loading p number written =

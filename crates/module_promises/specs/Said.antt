@@ -15,9 +15,9 @@ use Rattle.kinds.specs.declared.Known.the-variants.{Is}
 use Rattle.wire.specs.Frame as wire
 use Rattle.commands.specs.Commands.{parametersCommand, packetCommand, notice}
 use Rattle.module_model.specs.Phases.{longestIdle, totalOf}
-use Rattle.module_model.specs.Rules.{framesOf, dataIn, putOf, placeOf, acknowledged}
+use Rattle.module_model.specs.Rules.{framesOf, dataIn, putOf, placeOf, acknowledgeOf}
 use Rattle.module_model.specs.Outcomes.{Belongs, Expects, Accepted, Outcome, stays, restarts, begins, advances, repeats}
-use Rattle.module_model.specs.Replies.{Quiet, Declaring, Acknowledging, nothing-quiet, plain-quiet, begun-declaring, packet-said}
+use Rattle.module_model.specs.Replies.{Quiet, Declaring, PacketSaid, nothing-quiet, plain-quiet, begun-declaring, packet-said}
 use Rattle.module_model.specs.Replies.{restart-quiet, notice-last, last-notice}
 use Rattle.module_model.specs.Leads.{advance-accepted}
 use Rattle.module_model.specs.Answers.{isRefused, countIn}
@@ -50,17 +50,17 @@ pub record Declares (x : Exchange) (t : Transfer) : Type 0 where
   pub count : ℕ
   pub event-is : x .given .event ≡ Frame parametersCommand count
   pub kind-is : kindOf (numberAt 2 (payloadOf (x .given)) 0) ≡ Is (t .kind)
-  pub length-is : lengthIn x ≡ t .length
-  pub fitting : FitsFlash (t .kind) (t .length) (length (x .given .flash))
+  pub length-is : lengthIn x ≡ t .extent
+  pub fitting : FitsFlash (t .kind) (t .extent) (length (x .given .flash))
   pub same : x .left .flash ≡ x .given .flash
 
 -- A step acknowledges a packet of a transfer; the notice comes with the last one.
-pub record Acknowledges (s : Session) (g : Given) (p : Pieces) (number : ℕ) : Type 0 where
+pub record AcceptsPacket (s : Session) (g : Given) (p : Pieces) (number : ℕ) : Type 0 where
   pub open-session : takes s ≡ true
   pub count : ℕ
   pub event-is : g .event ≡ Frame packetCommand count
   pub belongs : Belongs p number (payloadOf g) (length (g .flash))
-  pub said : Acknowledging number (heardOf (exchange s g))
+  pub said : PacketSaid number (heardOf (exchange s g))
   pub not-refused : isRefused (exchange s g .left .answer) ≡ false
   pub after : Accepted (nextOf s g .phase) p number
   pub notice-last : Says (exchange s g) (notice 0) → number ≡ totalOf p
@@ -71,9 +71,9 @@ pub data Turn (s : Session) (g : Given) : Type 0 where
   quiet : Quiet (heardOf (exchange s g)) → exchange s g .left .flash ≡ g .flash
       → (nextOf s g .phase ≡ s .phase) ⊎ (nextOf s g .phase ≡ Closed) → Turn s g
   declares : (t : Transfer) → Declares (exchange s g) t → nextOf s g .phase ≡ Begun t → Turn s g
-  writes : (p : Pieces) (number : ℕ) → Acknowledges s g p number → Expects (s .phase) p number
+  writes : (p : Pieces) (number : ℕ) → AcceptsPacket s g p number → Expects (s .phase) p number
       → exchange s g .left .flash ≡ laid (g .flash) (placeOf p number) (dataIn (payloadOf g)) → Turn s g
-  again : (p : Pieces) (number : ℕ) → Acknowledges s g p number → Accepted (s .phase) p number
+  again : (p : Pieces) (number : ℕ) → AcceptsPacket s g p number → Accepted (s .phase) p number
       → dataIn (payloadOf g) ≡ partOf (g .flash) (placeOf p number) (length (dataIn (payloadOf g)))
       → exchange s g .left .flash ≡ g .flash → Turn s g
 
@@ -105,17 +105,17 @@ module _ (s : Session) (g : Given) (command count : ℕ) (d : Decision) (t : tak
   flash-is e is = ap (λ (l : Left). l .flash) left-is ∙ ap (λ (x : Decision). putOf (x .put) (payloadOf g) (g .flash)) is
 
   -- A packet that belongs to the transfer and leads to a phase that has accepted it.
-  acknowledges : (p : Pieces) (number : ℕ) (phase : Phase) (put : Put) → command ≡ packetCommand
-      → Belongs p number (payloadOf g) (length (g .flash)) → Accepted phase p number → d ≡ acknowledged phase number put
-      → Acknowledges s g p number
-  acknowledges p number phase put c k after is =
+  accepts-packet : (p : Pieces) (number : ℕ) (phase : Phase) (put : Put) → command ≡ packetCommand
+      → Belongs p number (payloadOf g) (length (g .flash)) → Accepted phase p number → d ≡ acknowledgeOf phase number put
+      → AcceptsPacket s g p number
+  accepts-packet p number phase put c k after is =
       let heard = heard-is _ is in
       record {
         open-session = t;
         count = count;
         event-is = ev ∙ ap (λ (n : ℕ). Frame n count) c;
         belongs = k;
-        said = rw heard (packet-said phase number (omega (arith, k .most, k .cut .carried)));
+        said = rw heard (packet-said phase number (omega (arith, k .most, k .cut .total-most)));
         not-refused = rw left-is (reply-taken (framesOf (d .say)));
         after = rw (phase-is _ is) after;
         notice-last = λ m. notice-last phase p number after (rw heard at m);
@@ -139,8 +139,8 @@ module _ (s : Session) (g : Given) (command count : ℕ) (d : Decision) (t : tak
       })
       (phase-is _ e)
   frame-turn (advances p number c x k e) =
-      writes p number (acknowledges p number _ _ c k (advance-accepted p number (payloadOf g) (length (g .flash)) k) e) x (flash-is _ e)
-  frame-turn (repeats p number c x k same e) = again p number (acknowledges p number _ _ c k x e) x same (flash-is _ e)
+      writes p number (accepts-packet p number _ _ c k (advance-accepted p number (payloadOf g) (length (g .flash)) k) e) x (flash-is _ e)
+  frame-turn (repeats p number c x k same e) = again p number (accepts-packet p number _ _ c k x e) x same (flash-is _ e)
 
 -- A step that sends nothing, leaves the flash, and leaves the phase or closes.
 silent-turn : (s : Session) (g : Given) (r : Stepped) → countIn (r .answer) ≡ 0

@@ -6,7 +6,7 @@ use Rattle.octets.specs.Octets.{Bytes}
 use Rattle.commands.specs.Commands.{notice}
 use Rattle.module_model.specs.Phases.{totalOf}
 use Rattle.module_promises.specs.Runs.{Given, exchange, nextOf, afterOf, runOf, AllBytes, Says}
-use Rattle.module_promises.specs.Said.{Acknowledges, Turn, quiet, declares, writes, again, turn-of}
+use Rattle.module_promises.specs.Said.{AcceptsPacket, Turn, quiet, declares, writes, again, turn-of}
 use Rattle.module_promises.specs.Track.{Pieced, accepted-pieced, tracked-more, reached-tracked}
 use Rattle.module_promises.specs.Promises.{Opening, openedBy, LastPacket, Success, SuccessExactly}
 use Rattle.module_model.specs.declared.phases.Pieces.{Pieces}
@@ -15,13 +15,13 @@ use Rattle.module.specs.declared.session.Session.{Session}
 -- A step that acknowledges the last packet of a transfer.
 pub record Ends (s : Session) (g : Given) : Type 0 where
   pub p : Pieces
-  pub packet : Acknowledges s g p (totalOf p)
+  pub packet : AcceptsPacket s g p (totalOf p)
 
 -- The notice is said by such a step only.
 pub notice-ends : (s : Session) (g : Given) → Bytes (g .payload) → Says (exchange s g) (notice 0) → Ends s g
 notice-ends s g bytes says = go (turn-of s g bytes)
   where
-    ends : (p : Pieces) (number : ℕ) → Acknowledges s g p number → Ends s g
+    ends : (p : Pieces) (number : ℕ) → AcceptsPacket s g p number → Ends s g
     ends p number a = record { p = p; packet = rw (a .notice-last says) at a }
 
     go : Turn s g → Ends s g
@@ -35,7 +35,7 @@ pub last-notices : (s : Session) (g : Given) → Bytes (g .payload) → (total :
     → Says (exchange s g) (notice 0)
 last-notices s g bytes total last = go (turn-of s g bytes)
   where
-    notices : (p : Pieces) (number : ℕ) → Acknowledges s g p number → Says (exchange s g) (notice 0)
+    notices : (p : Pieces) (number : ℕ) → AcceptsPacket s g p number → Says (exchange s g) (notice 0)
     notices p number a =
         let k = a .belongs in
         a .last-notice (sym (k .number-is) ∙ last .number-field ∙ sym (last .total-field) ∙ k .total-is)

@@ -109,16 +109,16 @@ eight-bytes = (
 -- ---- the sessions that they lead to
 
 abbrev pub begun4 : Session
-begun4 = session 4 0 (Begun (record { kind = Upgrade; length = 4 }))
+begun4 = session 4 0 (Begun (record { kind = Upgrade; extent = 4 }))
 
 abbrev pub done4 : Session
-done4 = session 4 0 (Done (record { transfer = record { kind = Upgrade; length = 4 }; size = 4 }) 4)
+done4 = session 4 0 (Done (record { transfer = record { kind = Upgrade; extent = 4 }; size = 4 }) 4)
 
 abbrev pub begun8 : Session
-begun8 = session 8 0 (Begun (record { kind = Upgrade; length = 8 }))
+begun8 = session 8 0 (Begun (record { kind = Upgrade; extent = 8 }))
 
 abbrev pub loading8 : Session
-loading8 = session 8 0 (Loading (record { transfer = record { kind = Upgrade; length = 8 }; size = 4 }) 1 4)
+loading8 = session 8 0 (Loading (record { transfer = record { kind = Upgrade; extent = 8 }; size = 4 }) 1 4)
 
 -- ---- what is read off the last exchange of a run
 

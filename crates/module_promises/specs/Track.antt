@@ -22,11 +22,11 @@ use Rattle.module_model.specs.Phases.{openable, totalOf}
 use Rattle.module_model.specs.PhasesLaws.{cut-length}
 use Rattle.module_model.specs.Rules.{dataIn, placeOf}
 use Rattle.module_model.specs.Outcomes.{Belongs, Expects, first, later, Accepted, loading, done}
-use Rattle.module_model.specs.Replies.{Quiet, Acknowledging}
+use Rattle.module_model.specs.Replies.{Quiet, PacketSaid}
 use Rattle.module_model.specs.Answers.{isRefused}
 use Rattle.module.specs.Session.{openingOf}
 use Rattle.module_promises.specs.Runs.{Given, Exchange, exchange, nextOf, afterOf, afterBy, runOf, runBy, AllBytes, Says, payloadOf}
-use Rattle.module_promises.specs.Said.{Declares, Acknowledges, Turn, quiet, declares, writes, again, heardOf, turn-of}
+use Rattle.module_promises.specs.Said.{Declares, AcceptsPacket, Turn, quiet, declares, writes, again, heardOf, turn-of}
 use Rattle.module_promises.specs.Promises.{Opening, online, openedBy, LastParameters, Acknowledged, FirstAcknowledged, keptBy, NobodyElse}
 use Rattle.module_promises.specs.Promises.{joined}
 use Rattle.module_model.specs.declared.phases.Transfer.{Transfer}
@@ -222,7 +222,7 @@ module _ (flash : List ℕ) (base : ℕ) (since : List Exchange) (number : ℕ) 
   })
 
   -- It acknowledges the next packet and lays its data behind the others.
-  loaded-next : Acknowledging (number + 1) (heardOf x) → isRefused (x .left .answer) ≡ false
+  loaded-next : PacketSaid (number + 1) (heardOf x) → isRefused (x .left .answer) ≡ false
       → base + length (joined pieces) + length (dataIn (payloadOf (x .given))) ≤ length flash
       → x .left .flash ≡ laid (x .given .flash) (base + length (joined pieces)) (dataIn (payloadOf (x .given)))
       → Loaded flash base (since ++ (x ∷ [])) (number + 1) (pieces ++ (dataIn (payloadOf (x .given)) ∷ []))
@@ -312,11 +312,11 @@ pub record LastPiece (p : Pieces) (number : ℕ) (pieces : List (List ℕ)) : Ty
   pub final : List ℕ
   pub split : pieces ≡ earlier ++ (final ∷ [])
   pub before : length (joined earlier) ≡ offsetOf (p .size) number
-  pub size : length final ≡ sizeAt (p .transfer .length) (p .size) number
+  pub size : length final ≡ sizeAt (p .transfer .extent) (p .size) number
 
 -- All of them together end where that piece ends.
 pub last-ends : (p : Pieces) (number : ℕ) (pieces : List (List ℕ)) → LastPiece p number pieces
-    → length (joined pieces) ≡ offsetOf (p .size) number + sizeAt (p .transfer .length) (p .size) number
+    → length (joined pieces) ≡ offsetOf (p .size) number + sizeAt (p .transfer .extent) (p .size) number
 last-ends p number pieces e =
     ap (λ (ds : List (List ℕ)). length (joined ds)) (e .split)
     ∙ ap length (joined-more (e .earlier) (e .final))
@@ -394,54 +394,54 @@ tracked-quiet history (Done p written) x h q same = pieced-quiet history p (tota
 
 -- A packet's piece ends within the image.
 pub piece-within : (p : Pieces) (number : ℕ) (payload : List ℕ) (flash : ℕ) → Belongs p number payload flash
-    → Within (p .transfer .length) (p .size) number
+    → Within (p .transfer .extent) (p .size) number
 piece-within p number payload flash k =
-    within (p .transfer .length) (p .size) number (cut-length p (k .cut)) (k .cut .some) (k .one) (k .most)
+    within (p .transfer .extent) (p .size) number (cut-length p (k .cut)) (k .cut .some) (k .one) (k .most)
 
 -- It ends within the flash that was lent with the parameters.
 piece-room : (p : Pieces) (number : ℕ) (payload : List ℕ) (flash : ℕ) → Belongs p number payload flash → (x : Exchange)
-    → Declares x (p .transfer) → placeOf p number + sizeAt (p .transfer .length) (p .size) number ≤ length (x .given .flash)
+    → Declares x (p .transfer) → placeOf p number + sizeAt (p .transfer .extent) (p .size) number ≤ length (x .given .flash)
 piece-room p number payload flash k x d = omega (arith, piece-within p number payload flash k .inside, d .fitting .inside)
 
 -- A step that acknowledges a packet.
 module _ (history : List Exchange) (s : Session) (g : Given) (p : Pieces) where
   -- The data of the packet, and the base of its transfer.
-  abbrev carried : List ℕ
-  carried = dataIn (payloadOf g)
+  abbrev piece : List ℕ
+  piece = dataIn (payloadOf g)
 
   abbrev base : ℕ
   base = baseOf (p .transfer .kind)
 
   -- The packet that it acknowledges belongs to the transfer.
-  own-belongs : (number : ℕ) → Acknowledges s g p number → (k : ℕ) → 1 ≤ k → k ≤ largestTotal
+  own-belongs : (number : ℕ) → AcceptsPacket s g p number → (k : ℕ) → 1 ≤ k → k ≤ largestTotal
       → Says (exchange s g) (packetReply k accepted) → Belongs p k (payloadOf g) (length (g .flash))
   own-belongs number a k one short says = rw (a .said .only k short says) (a .belongs)
 
   -- The expected packet, written behind the pieces before it.
   pieced-next : (number : ℕ) (pieces : List (List ℕ)) (r : Track history (p .transfer) number pieces)
-      → AllBelong (r .since) p → length (joined pieces) ≡ offsetOf (p .size) (number + 1) → Acknowledges s g p (number + 1)
-      → exchange s g .left .flash ≡ laid (g .flash) (placeOf p (number + 1)) carried
+      → AllBelong (r .since) p → length (joined pieces) ≡ offsetOf (p .size) (number + 1) → AcceptsPacket s g p (number + 1)
+      → exchange s g .left .flash ≡ laid (g .flash) (placeOf p (number + 1)) piece
       → Pieced (history ++ (exchange s g ∷ [])) p (number + 1)
   unfolding track-more
   pieced-next number pieces r former before a put =
       let x = exchange s g in
       let k = a .belongs in
-      let room : base + length (joined pieces) + length carried ≤ length (r .parameters .given .flash) =
+      let room : base + length (joined pieces) + length piece ≤ length (r .parameters .given .flash) =
       omega (arith, before, k .size-is, piece-room p (number + 1) (payloadOf g) (length (g .flash)) k (r .parameters) (r .declared)) in
       record {
-        pieces = pieces ++ (carried ∷ []);
+        pieces = pieces ++ (piece ∷ []);
         one = omega arith;
         track =
-            track-more history (p .transfer) number pieces r x (a .said .no-parameters largestPacket) (number + 1) (pieces ++ (carried ∷ []))
+            track-more history (p .transfer) number pieces r x (a .said .no-parameters largestPacket) (number + 1) (pieces ++ (piece ∷ []))
             (loaded-next _ _ (r .since) number pieces (r .loaded) x (a .said) (a .not-refused) room
-            (put ∙ ap (λ (n : ℕ). laid (g .flash) (base + n) carried) (sym before)));
-        ending = record { earlier = pieces; final = carried; split = refl; before = before; size = k .size-is };
+            (put ∙ ap (λ (n : ℕ). laid (g .flash) (base + n) piece) (sym before)));
+        ending = record { earlier = pieces; final = piece; split = refl; before = before; size = k .size-is };
         belong = belong-more p (r .since) x former (own-belongs (number + 1) a);
       }
 
   -- The last accepted packet once more: its bytes are the last piece.
-  pieced-again : (number : ℕ) → Pieced history p number → Acknowledges s g p number
-      → carried ≡ partOf (g .flash) (placeOf p number) (length carried) → exchange s g .left .flash ≡ g .flash
+  pieced-again : (number : ℕ) → Pieced history p number → AcceptsPacket s g p number
+      → piece ≡ partOf (g .flash) (placeOf p number) (length piece) → exchange s g .left .flash ≡ g .flash
       → Pieced (history ++ (exchange s g ∷ [])) p number
   unfolding track-more
   pieced-again number h a same put = record {
@@ -467,16 +467,16 @@ module _ (history : List Exchange) (s : Session) (g : Given) (p : Pieces) where
           sym (getD-at (e .earlier) (e .final) [] [] (number - 1) at)
           ∙ ap (λ (ds : List (List ℕ)). getD ds (number - 1) []) (sym (e .split))
 
-      sized : length carried ≡ length (getD (h .pieces) (number - 1) [])
+      sized : length piece ≡ length (getD (h .pieces) (number - 1) [])
       sized = a .belongs .size-is ∙ sym (h .ending .size) ∙ ap length final-is
 
-      own : g .flash ≡ laid (h .track .parameters .given .flash) base (joined (h .pieces)) → carried ≡ getD (h .pieces) (number - 1) []
+      own : g .flash ≡ laid (h .track .parameters .given .flash) base (joined (h .pieces)) → piece ≡ getD (h .pieces) (number - 1) []
       own lent =
           let e = h .ending in
           let k = a .belongs in
           let r = h .track in
           let flash = r .parameters .given .flash in
-          let size : length carried ≡ length (e .final) = k .size-is ∙ sym (e .size) in
+          let size : length piece ≡ length (e .final) = k .size-is ∙ sym (e .size) in
           let room : base + length (joined (e .earlier)) + length (e .final) ≤ length flash =
           omega (arith, e .before, e .size, piece-room p number (payloadOf g) (length (g .flash)) k (r .parameters) (r .declared)) in
           let there : g .flash ≡ laid flash base (joined (e .earlier) ++ e .final) =
@@ -484,22 +484,22 @@ module _ (history : List Exchange) (s : Session) (g : Given) (p : Pieces) where
           ∙ ap (λ (ds : List (List ℕ)). laid flash base (joined ds)) (e .split)
           ∙ ap (laid flash base) (joined-more (e .earlier) (e .final)) in
           same
-          ∙ ap (λ (n : ℕ). partOf (g .flash) (base + n) (length carried)) (sym (e .before))
+          ∙ ap (λ (n : ℕ). partOf (g .flash) (base + n) (length piece)) (sym (e .before))
           ∙ ap (partOf (g .flash) (base + length (joined (e .earlier)))) size
           ∙ ap (λ (f : List ℕ). partOf f (base + length (joined (e .earlier))) (length (e .final))) there
           ∙ part-behind flash base (joined (e .earlier)) (e .final) room
           ∙ final-is
 
   -- The expected packet, after parameters or behind those accepted.
-  pieced-writes : (number : ℕ) → Tracked history (s .phase) → Expects (s .phase) p number → Acknowledges s g p number
-      → exchange s g .left .flash ≡ laid (g .flash) (placeOf p number) carried → Pieced (history ++ (exchange s g ∷ [])) p number
+  pieced-writes : (number : ℕ) → Tracked history (s .phase) → Expects (s .phase) p number → AcceptsPacket s g p number
+      → exchange s g .left .flash ≡ laid (g .flash) (placeOf p number) piece → Pieced (history ++ (exchange s g ∷ [])) p number
   pieced-writes number h (first e one) a put =
       let begun : Track history (p .transfer) 0 [] = rw e at h in
       rw one (pieced-next 0 [] begun (λ x m k some short says. absurd (omega (arith, some, begun .loaded .most x m k short says))) (omega arith) (rw one at a) (rw one at put))
   pieced-writes number h (later before written e next) a put =
       let r : Pieced history p before = rw e at h in
       let size = p .size in
-      let n = p .transfer .length in
+      let n = p .transfer .extent in
       let k = a .belongs in
       let seam : length (joined (r .pieces)) ≡ offsetOf size (before + 1) =
       last-ends p before (r .pieces) (r .ending) ∙ next-offset n size before (r .one) (omega (arith, k .most, next)) in

@@ -106,11 +106,11 @@ confirmed-heard s g phase number d at short c =
 
 -- A frame with the numbers of a packet of a transfer belongs to it.
 frame-belongs : (p : Pieces) (number : ℕ) (g : Given) (flash : ℕ) → Cut p
-    → FitsFlash (p .transfer .kind) (p .transfer .length) flash → 1 ≤ number → number ≤ totalOf p
-    → PacketFrame g (totalOf p) number (sizeAt (p .transfer .length) (p .size) number) → Belongs p number (payloadOf g) flash
+    → FitsFlash (p .transfer .kind) (p .transfer .extent) flash → 1 ≤ number → number ≤ totalOf p
+    → PacketFrame g (totalOf p) number (sizeAt (p .transfer .extent) (p .size) number) → Belongs p number (payloadOf g) flash
 unfolding numbersIn
 frame-belongs p number g flash cut fit one most f =
-    let n = p .transfer .length in
+    let n = p .transfer .extent in
     let w = within n (p .size) number (cut-length p cut) (cut .some) one most in
     let long : length (dataIn (payloadOf g)) ≡ sizeAt n (p .size) number = length-drop packetHead (payloadOf g) ∙ omega (arith, f .long) in
     record {
@@ -134,7 +134,7 @@ module _ (history : List Exchange) (parameters : Exchange) (since : List Exchang
     same-last : (parameters ≡ r .parameters) × (since ≡ r .since)
     same-last = last-only history parameters since (r .parameters) (r .since) last (r .last)
 
-    length-told : lengthIn parameters ≡ t .length
+    length-told : lengthIn parameters ≡ t .extent
     length-told = ap lengthIn (same-last .0) ∙ r .declared .length-is
 
     base-told : baseIn parameters ≡ baseOf (t .kind)
@@ -157,7 +157,7 @@ module _ (history : List Exchange) (parameters : Exchange) (since : List Exchang
     size-told size k e =
         let a = acknowledged-all (p .transfer) number (h .pieces) (h .track) 1 (omega arith) (h .one) in
         let b = belongs-told (a .exchange) (a .there) 1 (omega arith) (omega arith) (a .says) in
-        sym (size-first (p .transfer .length) (p .size) (b .cut .some) (b .cut .within))
+        sym (size-first (p .transfer .extent) (p .size) (b .cut .some) (b .cut .within))
         ∙ sym (b .size-is)
         ∙ e .size-set (a .exchange) (a .there) (a .says)
 
@@ -181,8 +181,8 @@ module _ (o : Opening) (gs : List Given) (g : Given) (all : AllBytes gs) where
     short = omega (arith, e .most, e .total-most)
 
     -- It is acknowledged where the phase expects it, of a transfer with this length and size.
-    phase-says : (phase : Phase) (p : Pieces) → now .phase ≡ phase → lengthIn parameters ≡ p .transfer .length → p .size ≡ size
-        → FitsFlash (p .transfer .kind) (p .transfer .length) (length (g .flash)) → Expects phase p k
+    phase-says : (phase : Phase) (p : Pieces) → now .phase ≡ phase → lengthIn parameters ≡ p .transfer .extent → p .size ≡ size
+        → FitsFlash (p .transfer .kind) (p .transfer .extent) (length (g .flash)) → Expects phase p k
         → Says (exchange now g) (packetReply k accepted)
     phase-says phase p at long same fit x =
         let cut : Cut p =
@@ -190,9 +190,9 @@ module _ (o : Opening) (gs : List Given) (g : Given) (all : AllBytes gs) where
           some = rw same (e .size-some);
           small = rw same (e .size-most);
           within = rw (same, ← long) (e .size-short);
-          carried = rw (same, ← long) (e .total-most);
+          total-most = rw (same, ← long) (e .total-most);
         } in
-        let frame : PacketFrame g (totalOf p) k (sizeAt (p .transfer .length) (p .size) k) = rw (same, ← long) f in
+        let frame : PacketFrame g (totalOf p) k (sizeAt (p .transfer .extent) (p .size) k) = rw (same, ← long) f in
         let most : k ≤ totalOf p = rw (same, ← long) (e .most) in
         let b = frame-belongs p k g (length (g .flash)) cut fit (e .some) most frame in
         confirmed-heard now g phase k d at short (expected-confirmed phase p k (payloadOf g) (g .flash) (length (g .flash)) x b)
@@ -202,7 +202,7 @@ module _ (o : Opening) (gs : List Given) (g : Given) (all : AllBytes gs) where
     expected-says Ready at h = absurd (h parameters (last-there history parameters since last) (last .accepts))
     expected-says (Begun tr) at h =
         phase-says (Begun tr) (record { transfer = tr; size = size }) at (length-told history parameters since last tr 0 [] h) refl
-        (fits-flash (tr .kind) (tr .length) (length (g .flash)) (held-now (Begun tr) at)) (first refl (only (decLt 1 k)))
+        (fits-flash (tr .kind) (tr .extent) (length (g .flash)) (held-now (Begun tr) at)) (first refl (only (decLt 1 k)))
       where
         only : Dec (1 < k) → k ≡ 1
         only (yes more) =
@@ -212,7 +212,7 @@ module _ (o : Opening) (gs : List Given) (g : Given) (all : AllBytes gs) where
         let l = loading-facts p (length (g .flash)) number written (held-now (Loading p number written) at) in
         phase-says (Loading p number written) p at (length-told history parameters since last (p .transfer) number (h .pieces) (h .track))
         (size-told history parameters since last p number h size k e) (l .fitting)
-        (later number written refl (next (omega (arith, l .before, l .cut .carried)) (decLe k number) (decLt (number + 1) k)))
+        (later number written refl (next (omega (arith, l .before, l .cut .total-most)) (decLe k number) (decLt (number + 1) k)))
       where
         next : number + 1 ≤ largestTotal → Dec (k ≤ number) → Dec (number + 1 < k) → k ≡ number + 1
         next small (yes old) far =
@@ -307,7 +307,7 @@ repeat-succeeds o gs g all bytes total r t taken = (says, notices)
         absurd (omega (arith, last, l .before, reached-most (p .transfer) number (h .pieces) (h .track)))
     go (Done p written) at h =
         let k = former-belongs p (totalOf p) h in
-        let n = p .transfer .length in
+        let n = p .transfer .extent in
         let last : total ≡ totalOf p = sym (former .total-field) ∙ k .total-is in
         let again : Belongs p (totalOf p) (payloadOf g) (length (r .former .given .flash)) = rw (r .same) (rw last at k) in
         let bytes-of = dataIn (payloadOf g) in
@@ -324,7 +324,7 @@ repeat-succeeds o gs g all bytes total r t taken = (says, notices)
         let stands : bytes-of ≡ partOf (g .flash) (placeOf p (totalOf p)) (length bytes-of) =
         r .stands ∙ ap (λ (i : ℕ). partOf (g .flash) i (length bytes-of)) place in
         rw last
-        (confirmed-heard s g (Done p written) (totalOf p) d at (again .cut .carried)
+        (confirmed-heard s g (Done p written) (totalOf p) d at (again .cut .total-most)
         (repeat-confirmed p written (payloadOf g) (g .flash) _ again stands))
 
     says : Says x (packetReply total accepted)

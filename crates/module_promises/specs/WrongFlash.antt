@@ -171,7 +171,7 @@ unfolding openingOf takes alive openable cuts doneArises kindOf fitsFlash countO
 trusting-heard = (
   heard-performed (opened flash) (comparesNothing Ready 2 (declares .payload) flash) (declares .payload) flash (declares .reply),
   heard-performed begun4 (comparesNothing (begun4 .phase) 5 (sends .payload) flash) (sends .payload) flash (sends .reply),
-  heard-performed done4 (rules.acknowledged (done4 .phase) 1 Nowhere) (other .payload) image (other .reply),
+  heard-performed done4 (rules.acknowledgeOf (done4 .phase) 1 Nowhere) (other .payload) image (other .reply),
 )
 
 not-trusting : Told z0 (z1 ∷ z2 ∷ []) z2 → ⊥

@@ -9,7 +9,7 @@ use Rattle.refusals.specs.Refusals.{noRoom, wrongLength}
 use Rattle.kinds.specs.Kinds.{baseOf, tokenOf}
 use Rattle.commands.specs.Commands.{packetCommand, accepted}
 use Rattle.module_model.specs.Phases.{totalOf}
-use Rattle.module_model.specs.Rules.{notTaken, dataIn, numbersIn, placeOf, isPacket, acknowledged, loadingDecision, decideOf}
+use Rattle.module_model.specs.Rules.{notTaken, dataIn, numbersIn, placeOf, isPacket, acknowledgeOf, loadingDecision, decideOf}
 use Rattle.module.specs.Session.{stepped, takes}
 use Rattle.module.specs.Step.{Left, left, performed, timeStep, smallestReply, frameStep, stepOf}
 use Rattle.module_promises.specs.Runs.{Step}
@@ -115,7 +115,7 @@ uncompared Ready command payload d = d
 uncompared (Begun t) command payload d = d
 uncompared (Loading p number written) command payload d = d
 uncompared (Done p written) command payload d =
-    cond (eqb command packetCommand && isPacket p (totalOf p) (numbersIn payload)) (acknowledged (Done p written) (totalOf p) Nowhere) d
+    cond (eqb command packetCommand && isPacket p (totalOf p) (numbersIn payload)) (acknowledgeOf (Done p written) (totalOf p) Nowhere) d
 
 abbrev pub comparesNothing : Rule
 comparesNothing phase command payload flash = uncompared phase command payload (decideOf phase command payload flash)
@@ -140,7 +140,7 @@ lastAtOnce Closed command given d = d
 lastAtOnce Ready command given d = d
 lastAtOnce (Begun t) command given d =
     cond (eqb command packetCommand && eqb (given .number) (given .total))
-    (acknowledged (Done (record { transfer = t; size = given .size }) (t .length)) (given .number) Nowhere) d
+    (acknowledgeOf (Done (record { transfer = t; size = given .size }) (t .extent)) (given .number) Nowhere) d
 lastAtOnce (Loading p number written) command given d = d
 lastAtOnce (Done p written) command given d = d
 
@@ -159,6 +159,19 @@ unnoticed (Restart ack) = Restart ack
 abbrev pub saysNoNotice : Rule
 saysNoNotice phase command payload flash =
     let d = decideOf phase command payload flash in record { phase = d .phase; say = unnoticed (d .say); put = d .put }
+
+-- Refused parameters leave no transfer.
+abbrev dropped : Say → Phase → Phase
+dropped Nothing phase = phase
+dropped (Rate rate ack) phase = phase
+dropped (Parameters ack) phase = cond (eqb ack accepted) phase Ready
+dropped (Packet number ack) phase = phase
+dropped (Last number state) phase = phase
+dropped (Restart ack) phase = phase
+
+abbrev pub dropsTransfer : Rule
+dropsTransfer phase command payload flash =
+    let d = decideOf phase command payload flash in record { phase = dropped (d .say) (d .phase); say = d .say; put = d .put }
 
 -- Data are written at the address that the parameters carry, so 0 for type 1.
 abbrev atAddress : Phase → Put → Put

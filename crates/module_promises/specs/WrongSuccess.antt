@@ -1,6 +1,6 @@
 -- Wrong steps that break M1: one says success on the last packet but one, one does not compare Total, one skips packets, one refuses
--- repeats when done, one refuses all, one says no notice.
-use mathlib.Core.List.{[], _∷_, List·Memᴰ·head, List·Memᴰ·tail, List·Memᴰ·not-nil, List·Memᴰ·eq-of-singleton}
+-- repeats when done, one refuses all, one says no notice, one drops the transfer at refused parameters.
+use mathlib.Core.List.{List, [], _∷_, List·Memᴰ, List·Memᴰ·head, List·Memᴰ·tail, List·Memᴰ·not-nil, List·Memᴰ·eq-of-singleton}
 use mathlib.Core.Path.{_≡_, refl}
 use native.Mathlib.Omega.{arith}
 use Rattle.octets.specs.Octets.{Bytes, numberAt, little, spelled, partOf, laid}
@@ -8,10 +8,10 @@ use Rattle.octets.specs.Lists.{bytes-spelled}
 use Rattle.kinds.specs.Kinds.{kindOf, fitsFlash}
 use Rattle.kinds.specs.declared.Kind.the-variants.{Upgrade}
 use Rattle.pieces.specs.Pieces.{countOf, sizeAt}
-use Rattle.commands.specs.Commands.{noticeCommand, accepted, notUnderstood, largestPacket, parametersReply, packetReply, notice}
+use Rattle.commands.specs.Commands.{noticeCommand, accepted, wrongSecond, notUnderstood, largestPacket, parametersReply, packetReply, notice}
 use Rattle.module_model.specs.Phases.{openable, alive, cuts, loadingArises, doneArises}
 use Rattle.module_model.specs.Rules.{decideOf}
-use Rattle.module_model.specs.Replies.{plain-quiet, packet-said}
+use Rattle.module_model.specs.Replies.{Quiet, plain-quiet, packet-said}
 use Rattle.module_model.specs.Rules as rules
 use Rattle.module.specs.Session.{session, openingOf, takes}
 use Rattle.module_promises.specs.Runs.{Step, Exchange, Offer, given, exchangeBy, afterBy, runBy, Says}
@@ -22,11 +22,12 @@ use Rattle.module_promises.specs.Tiny.{flash, image, declares, sends, ti
 use Rattle.module_promises.specs.Tiny.{sends2, zeros64, begun4, done4, begun8, loading8, has-none, no-parameters, last-first}
 use Rattle.module_promises.specs.When.{last-only}
 use Rattle.module_promises.specs.WrongRules.{stepBy, saysEarly, comparesNoTotal, skipsPackets, refusesRepeats, refusesAll, saysNoNotice}
+use Rattle.module_promises.specs.WrongRules.{dropsTransfer}
 use Rattle.module_model.specs.declared.phases.Phase.{Phase}
 use Rattle.module_model.specs.declared.phases.Phase.the-variants.{Ready, Done}
 use Rattle.module_model.specs.declared.events.Event.the-variants.{Frame}
 use Rattle.module_model.specs.declared.rules.Put.the-variants.{Nowhere}
-use Rattle.module_model.specs.declared.rules.Say.the-variants.{Packet}
+use Rattle.module_model.specs.declared.rules.Say.the-variants.{Parameters, Packet}
 
 -- ---- success on the last but one
 
@@ -89,14 +90,14 @@ abbrev skipped : Exchange
 skipped = exchangeBy skipping (asked .left .session) (given flash8 sends2)
 
 abbrev done8 : Phase
-done8 = Done (record { transfer = record { kind = Upgrade; length = 8 }; size = 4 }) 8
+done8 = Done (record { transfer = record { kind = Upgrade; extent = 8 }; size = 4 }) 8
 
 skipping-heard : (heardOf asked ≡ parametersReply largestPacket accepted ∷ []) × (heardOf skipped ≡ packetReply 2 accepted ∷ notice 0 ∷ [])
 unfolding openingOf takes alive openable kindOf fitsFlash numberAt little rules.decideOf rules.parametersDecision rules.kindDecision
     rules.numbersIn rules.stateOf
 skipping-heard = (
   heard-performed (opened flash8) (decideOf Ready 2 (declares8 .payload) flash8) (declares8 .payload) flash8 (declares8 .reply),
-  heard-performed begun8 (rules.acknowledged done8 2 Nowhere) (sends2 .payload) flash8 (sends2 .reply),
+  heard-performed begun8 (rules.acknowledgeOf done8 2 Nowhere) (sends2 .payload) flash8 (sends2 .reply),
 )
 
 pub skips-packets-refuted : SuccessExactlyOf skipping → ⊥
@@ -191,19 +192,21 @@ refuser-heard = (
   heard-performed begun4 (rules.notTaken (begun4 .phase)) (sends .payload) flash (sends .reply),
 )
 
--- Packet 1 of 1 is expected.
-one-expected : (step : Step) → Expected (exchangeBy step (opened flash) (given flash declares)) [] 4 1
+-- Packet 1 of 1 is expected while it has not been acknowledged.
+one-expected : (step : Step) (since : List Exchange)
+    → ((x : Exchange) → List·Memᴰ x since → Says x (packetReply 1 accepted) → ⊥)
+    → Expected (exchangeBy step (opened flash) (given flash declares)) since 4 1
 unfolding countOf numberAt little
-one-expected step = record {
+one-expected step since none = record {
   size-some = omega arith;
   size-most = omega arith;
   size-short = omega arith;
   total-most = omega arith;
   some = omega arith;
   most = omega arith;
-  size-set = λ x m. absurd (List·Memᴰ·not-nil m);
+  size-set = λ x m says. absurd (none x m says);
   before = λ i some less. absurd (omega (arith, some, less));
-  not-yet = λ a. List·Memᴰ·not-nil (a .there);
+  not-yet = λ a. none (a .exchange) (a .there) (a .says);
 }
 
 pub refuses-all-refuted : ExpectedSucceedsOf refuser → ⊥
@@ -212,7 +215,7 @@ unfolding runBy afterBy openingOf takes alive openable kindOf fitsFlash countOf 
 refuses-all-refuted promise =
     let last = last-first started [] (rw (refuser-heard .0) (List·Memᴰ·head refl)) tt in
     let both = promise (online flash) (given flash declares ∷ []) (given flash sends) (tiny-bytes .0, tt) (tiny-bytes .1) started [] last 4 1
-    (one-expected refuser)
+    (one-expected refuser [] (λ x m. absurd (List·Memᴰ·not-nil m)))
     (record { count = 10; packet = refl; total-field = refl; number-field = refl; size-field = refl; long = refl }) refl refl in
     plain-quiet (Packet 0 notUnderstood) (refl, refl) .no-packet 1 (rw (refuser-heard .1) at (both .0))
 
@@ -241,6 +244,56 @@ unfolding runBy afterBy openingOf takes alive openable kindOf fitsFlash countOf 
 says-no-notice-refuted promise =
     let last = last-first begins [] (rw (silent-heard .0) (List·Memᴰ·head refl)) tt in
     let both = promise (online flash) (given flash declares ∷ []) (given flash sends) (tiny-bytes .0, tt) (tiny-bytes .1) begins [] last 4 1
-    (one-expected silent) (record { count = 10; packet = refl; total-field = refl; number-field = refl; size-field = refl; long = refl })
+    (one-expected silent [] (λ x m. absurd (List·Memᴰ·not-nil m))) (record { count = 10; packet = refl; total-field = refl; number-field = refl; size-field = refl; long = refl })
     refl refl in
     has-none noticeCommand (packetReply 1 accepted ∷ []) (notice 0) (refl, tt) (rw (silent-heard .1) at (both .1 refl)) refl
+
+-- ---- refused parameters leave no transfer
+
+abbrev dropping : Step
+dropping = stepBy dropsTransfer
+
+-- Parameters for 9 bytes do not fit the flash.
+abbrev tooLong : Offer
+tooLong = record { event = Frame 2 10; payload = 2 ∷ 0 ∷ 9 ∷ 0 ∷ 0 ∷ 0 ∷ 0 ∷ 0 ∷ 0 ∷ 0 ∷ []; reply = zeros64 }
+
+long-bytes : Bytes (tooLong .payload)
+unfolding spelled little
+long-bytes = bytes-spelled 10 (little (tooLong .payload))
+
+abbrev d0 : Exchange
+d0 = exchangeBy dropping (opened flash) (given flash declares)
+
+abbrev d1 : Exchange
+d1 = exchangeBy dropping (d0 .left .session) (given flash tooLong)
+
+abbrev d2 : Exchange
+d2 = exchangeBy dropping (d1 .left .session) (given flash sends)
+
+dropping-heard : (heardOf d0 ≡ parametersReply largestPacket accepted ∷ []) × (heardOf d1 ≡ parametersReply largestPacket wrongSecond ∷ [])
+    × (heardOf d2 ≡ packetReply 0 notUnderstood ∷ [])
+unfolding openingOf takes alive openable kindOf fitsFlash numberAt little rules.decideOf rules.parametersDecision rules.kindDecision
+    rules.packetDecision rules.wellFormed rules.numbersIn
+dropping-heard = (
+  heard-performed (opened flash) (decideOf Ready 2 (declares .payload) flash) (declares .payload) flash (declares .reply),
+  heard-performed begun4 (dropsTransfer (begun4 .phase) 2 (tooLong .payload) flash) (tooLong .payload) flash (tooLong .reply),
+  heard-performed (opened flash) (rules.notTaken Ready) (sends .payload) flash (sends .reply),
+)
+
+-- They accept nothing, so packet 1 of 1 is still expected.
+refused-quiet : Quiet (heardOf d1)
+refused-quiet = rw (dropping-heard .1) (plain-quiet (Parameters wrongSecond) (omega arith))
+
+still-expected : Expected d0 (d1 ∷ []) 4 1
+still-expected =
+    one-expected dropping (d1 ∷ []) (λ x m says. refused-quiet .no-packet 1 (rw (List·Memᴰ·eq-of-singleton m) at says))
+
+pub drops-transfer-refuted : ExpectedSucceedsOf dropping → ⊥
+unfolding runBy afterBy openingOf takes alive openable kindOf fitsFlash countOf sizeAt numberAt little rules.decideOf rules.parametersDecision
+    rules.kindDecision rules.packetDecision rules.wellFormed rules.numbersIn
+drops-transfer-refuted promise =
+    let last = last-first d0 (d1 ∷ []) (rw (dropping-heard .0) (List·Memᴰ·head refl)) (refused-quiet .no-parameters largestPacket, tt) in
+    let both = promise (online flash) (given flash declares ∷ given flash tooLong ∷ []) (given flash sends) (tiny-bytes .0, (long-bytes, tt))
+    (tiny-bytes .1) d0 (d1 ∷ []) last 4 1 still-expected
+    (record { count = 10; packet = refl; total-field = refl; number-field = refl; size-field = refl; long = refl }) refl refl in
+    plain-quiet (Packet 0 notUnderstood) (refl, refl) .no-packet 1 (rw (dropping-heard .2) at (both .0))

@@ -72,7 +72,7 @@ fn seen(stand: u8, transfer: Transfer, written: usize) -> View
         stand: stand,
         kind: kind,
         base: kinds::base_of(kind) as usize,
-        length: transfer.length,
+        length: transfer.extent,
         written: written,
     }
 }

@@ -55,7 +55,7 @@ fn show_phase(phase: Phase) {
         Phase::Ready => console::say(b"open: ready, no transfer"),
         Phase::Begun(transfer) => {
             console::say(b"open: wants packet 1 of ");
-            console::number(transfer.length);
+            console::number(transfer.extent);
             console::say(b" bytes");
         }
         Phase::Loading {

@@ -4,7 +4,7 @@ use mathlib.Core.Path.{ap}
 use Rattle.octets.specs.Octets.{spelled}
 use Rattle.commands.specs.Commands.{largestPacket, rateReply, parametersReply, packetReply, restartReply}
 use Rattle.module_model.specs.declared.events.Answer.the-variants.{Sent}
-use Rattle.module.specs.StepLaws.{says-same, says-nothing, sent-one}
+use Rattle.module.specs.StepLaws.{replied-same, replied-nothing, sent-one}
 use Rattle.module.proofs.replies.send.Statement.{statement}
 use Rattle.module.proofs.replies.send.Tie as tie
 
@@ -51,14 +51,14 @@ one-requires-3 : tie.Need-one-requires-3
 one-requires-3 c κs = search needs
 
 returns : tie.Need-returns
-returns c = says-same _ _ _ _ _ (c .enum-told .given .1) (says-nothing _)
+returns c = replied-same _ _ _ _ _ (c .enum-told .given .1) (replied-nothing _)
 
 same-length : tie.Need-same-length
 same-length c = search needs
 
 returns-2 : tie.Need-returns-2
 returns-2 c =
-    says-same _ _ _ _ _ (c .before .before .before .before .before .before .say .given .1)
+    replied-same _ _ _ _ _ (c .before .before .before .before .before .before .say .given .1)
     (sent-one (rateReply _ _) _ _ _ (c .before .before .one .ensures))
 
 same-length-2 : tie.Need-same-length-2
@@ -67,7 +67,7 @@ same-length-2 c = search needs
 returns-3 : tie.Need-returns-3
 unfolding spelled
 returns-3 c =
-    says-same _ _ _ _ _ (c .before .before .before .before .before .before .say2 .given .1)
+    replied-same _ _ _ _ _ (c .before .before .before .before .before .before .say2 .given .1)
     (sent-one (parametersReply largestPacket _) _ _ _ (c .before .before .one2 .ensures))
 
 same-length-3 : tie.Need-same-length-3
@@ -75,7 +75,7 @@ same-length-3 c = search needs
 
 returns-4 : tie.Need-returns-4
 returns-4 c =
-    says-same _ _ _ _ _ (c .before .before .before .before .before .say3 .given .1)
+    replied-same _ _ _ _ _ (c .before .before .before .before .before .say3 .given .1)
     (sent-one (packetReply _ _) _ _ _ (c .before .before .packet .ensures))
 
 same-length-4 : tie.Need-same-length-4
@@ -84,14 +84,14 @@ same-length-4 c = search needs
 returns-5 : tie.Need-returns-5
 returns-5 c =
     let done = c .before .before .last .ensures in
-    says-same _ _ _ _ _ (c .before .before .before .before .before .say4 .given .1) (ap Sent (done .0), done .1)
+    replied-same _ _ _ _ _ (c .before .before .before .before .before .say4 .given .1) (ap Sent (done .0), done .1)
 
 same-length-5 : tie.Need-same-length-5
 same-length-5 c = search needs
 
 returns-6 : tie.Need-returns-6
 returns-6 c =
-    says-same _ _ _ _ _ (c .before .before .before .before .before .before .say5 .given .1)
+    replied-same _ _ _ _ _ (c .before .before .before .before .before .before .say5 .given .1)
     (sent-one (restartReply _) _ _ _ (c .before .before .one3 .ensures))
 
 pub send-spec : {M : Type 1} → statement M

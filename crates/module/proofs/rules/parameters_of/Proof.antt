@@ -75,7 +75,7 @@ returns-3 c =
     let at = c .before .before in
     let kind = at .before .before .before .before .before .before .before .args .kind in
     c .unmoved-say3 .ensures
-    ∙ ap (λ n. unmoved (Begun (record { kind = kind; length = n })) (Parameters accepted)) (long at)
+    ∙ ap (λ n. unmoved (Begun (record { kind = kind; extent = n })) (Parameters accepted)) (long at)
     ∙ sym (kind-begins _ _ _ _ (address at) (passed (fits at) (c .before .if2 .left)))
 
 pub parameters-of-spec : {M : Type 1} → statement M

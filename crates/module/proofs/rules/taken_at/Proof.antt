@@ -1,6 +1,6 @@
 -- `module::taken_at`: the phase and the place of the packet, acknowledged.
 use mathlib.Core.Path.{ap₂, _∙_}
-use Rattle.module_model.specs.Rules.{acknowledged}
+use Rattle.module_model.specs.Rules.{acknowledgeOf}
 use Rattle.module_model.specs.declared.rules.Put.the-variants.{At}
 use borrow.Author.Needs.{needs}
 use Rattle.module.proofs.rules.taken_at.Statement.{statement}
@@ -18,7 +18,7 @@ acknowledge-requires c κs = search needs
 returns : tie.Need-returns
 returns c =
     c .acknowledge .ensures
-    ∙ ap₂ (λ phase place. acknowledged phase (c .before .before .before .args .number) (At place)) (c .before .before .phase-at .ensures)
+    ∙ ap₂ (λ phase place. acknowledgeOf phase (c .before .before .before .args .number) (At place)) (c .before .before .phase-at .ensures)
     (c .before .place-of .ensures)
 
 pub taken-at-spec : {M : Type 1} → statement M

@@ -24,7 +24,7 @@ returns-3 c =
     rw (
       le-leb 1 (p .size) (omega arith),
       le-leb (p .size) largestPacket (omega arith),
-      lt-leb (p .size) (p .transfer .length) (omega arith),
+      lt-leb (p .size) (p .transfer .extent) (omega arith),
     )
 
 count-requires : tie.Need-count-requires
@@ -37,7 +37,7 @@ returns-4 c =
     rw (
       le-leb 1 (p .size) (omega arith),
       le-leb (p .size) largestPacket (omega arith),
-      le-leb (p .size) (p .transfer .length) (omega arith),
+      le-leb (p .size) (p .transfer .extent) (omega arith),
       c .count .ensures,
     )
 

@@ -59,7 +59,7 @@ mul-result : tie.Need-mul-result
 mul-result c =
     let a = c .before .before .before .before .before .before .before .before .before .args in
     let facts = cuts-facts (a .pieces) (cut (c .before .before .before .before)) in
-    let number : a .number ≤ largestTotal = omega (arith, c .before .before .count .ensures, facts .carried) in
+    let number : a .number ≤ largestTotal = omega (arith, c .before .before .count .ensures, facts .total-most) in
     let product : a .number * a .pieces .size ≤ largestTotal * largestPacket = mul-le-mul number (facts .small) in
     omega (arith, product)
 
