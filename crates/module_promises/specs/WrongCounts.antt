@@ -75,7 +75,7 @@ forgetsInPause s (Frame command count) payload flash reply = stepOf s (Frame com
 forgetsInPause s (Elapsed ms) payload flash reply = left (stepped (session (s .flash) (s .idle + ms) Ready) Nothing) flash reply
 
 abbrev begun : Session
-begun = session 4 0 (Begun (record { kind = Upgrade; length = 4 }))
+begun = session 4 0 (Begun (record { kind = Upgrade; extent = 4 }))
 
 abbrev pausing : Given
 pausing = record { event = Elapsed 5; payload = []; flash = 0 ∷ 0 ∷ 0 ∷ 0 ∷ []; reply = zeros64 }
