@@ -22,7 +22,8 @@ use Rattle.module_promises.specs.Promises.{FlashAtSuccess, SuccessHoldsO
 use Rattle.module_promises.specs.When.{last-only}
 use Rattle.module_promises.specs.Tiny.{flash, image, declares, sends, zeros64, tiny-bytes, heardOf, no-parameters, last-first}
 use Rattle.module_promises.specs.Tiny.{flash8, declares8, sends1, sends2, eight-bytes, begun4, done4, begun8, loading8}
-use Rattle.module_promises.specs.WrongRules.{stepBy, writesNothing, writesFirst, comparesNothing, comparesNoSize, writesOneOn, writesRepeats, writesAtAddress}
+use Rattle.module_promises.specs.WrongRules.{stepBy, writesNothing, writesFirst, comparesNothing, comparesNoSize, writesOneOn}
+use Rattle.module_promises.specs.WrongRules.{writesRepeats, writesAtAddress}
 use Rattle.module_model.specs.declared.phases.Phase.the-variants.{Ready}
 use Rattle.module_model.specs.declared.events.Event.the-variants.{Frame}
 use Rattle.module_model.specs.declared.rules.Put.the-variants.{Nowhere}
