@@ -495,7 +495,8 @@ module _ (history : List Exchange) (s : Session) (g : Given) (p : Pieces) where
       → exchange s g .left .flash ≡ laid (g .flash) (placeOf p number) piece → Pieced (history ++ (exchange s g ∷ [])) p number
   pieced-writes number h (first e one) a put =
       let begun : Track history (p .transfer) 0 [] = rw e at h in
-      rw one (pieced-next 0 [] begun (λ x m k some short says. absurd (omega (arith, some, begun .loaded .most x m k short says))) (omega arith) (rw one at a) (rw one at put))
+      let none : AllBelong (begun .since) p = λ x m k some short says. absurd (omega (arith, some, begun .loaded .most x m k short says)) in
+      rw one (pieced-next 0 [] begun none (omega arith) (rw one at a) (rw one at put))
   pieced-writes number h (later before written e next) a put =
       let r : Pieced history p before = rw e at h in
       let size = p .size in

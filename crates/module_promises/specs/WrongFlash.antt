@@ -1,7 +1,7 @@
--- Wrong steps that break M2: one writes nothing, one packet 1 only, one does not compare repeats, one writes one place further on, one
--- writes repeats, one writes type 1 at address 0.
+-- Wrong steps that break M2: one writes nothing, one packet 1 only, one does not compare repeats, one does not compare sizes, one writes
+-- one place further on, one writes repeats, one writes type 1 at address 0.
 use Prim.Native.Nat.{ℕ, _≤_, _<_}
-use mathlib.Core.List.{List, [], _∷_, _++_, List·Memᴰ·head, List·Memᴰ·tail}
+use mathlib.Core.List.{List, [], _∷_, _++_, List·Memᴰ·head, List·Memᴰ·tail, List·Memᴰ·not-nil, List·Memᴰ·eq-of-singleton}
 use mathlib.Core.Path.{_≡_, refl, sym, ap, _∙_}
 use native.Mathlib.Omega.{arith}
 use lib.ListN.{length, getD, replicate}
@@ -9,19 +9,21 @@ use Rattle.octets.specs.Octets.{Bytes, numberAt, little, spelled, partOf, sameB
 use Rattle.octets.specs.Lists.{bytes-spelled}
 use Rattle.kinds.specs.Kinds.{kindOf, fitsFlash}
 use Rattle.pieces.specs.Pieces.{countOf, sizeAt}
+use Rattle.wire.specs.Frame as wire
 use Rattle.commands.specs.Commands.{accepted, largestPacket, parametersReply, packetReply, notice}
 use Rattle.module_model.specs.Phases.{openable, alive, cuts, loadingArises, doneArises}
 use Rattle.module_model.specs.Rules as rules
 use Rattle.module_model.specs.Rules.{decideOf}
 use Rattle.module.specs.Session.{session, openingOf, takes}
-use Rattle.module_promises.specs.Runs.{Step, Exchange, Offer, given, exchangeBy, afterBy, runBy, payloadOf}
+use Rattle.module_promises.specs.Runs.{Step, Exchange, Offer, given, exchangeBy, afterBy, runBy, payloadOf, Says}
 use Rattle.module_promises.specs.RunsLaws.{heard-performed}
-use Rattle.module_promises.specs.Promises.{online, opened, LastParameters, NobodyElse, joined, AcceptedData, HoldsImage, FlashAtSuccess}
-use Rattle.module_promises.specs.Promises.{SuccessHoldsOf, OnlyInRangeOf}
+use Rattle.module_promises.specs.Promises.{online, opened, LastParameters, NobodyElse, joined, FirstAcknowledged, AcceptedData, HoldsImage}
+use Rattle.module_promises.specs.Promises.{FlashAtSuccess, SuccessHoldsOf, OnlyInRangeOf}
 use Rattle.module_promises.specs.When.{last-only}
 use Rattle.module_promises.specs.Tiny.{flash, image, declares, sends, zeros64, tiny-bytes, heardOf, no-parameters, last-first}
 use Rattle.module_promises.specs.Tiny.{flash8, declares8, sends1, sends2, eight-bytes, begun4, done4, begun8, loading8}
-use Rattle.module_promises.specs.WrongRules.{stepBy, writesNothing, writesFirst, comparesNothing, writesOneOn, writesRepeats, writesAtAddress}
+use Rattle.module_promises.specs.WrongRules.{stepBy, writesNothing, writesFirst, comparesNothing, comparesNoSize, writesOneOn}
+use Rattle.module_promises.specs.WrongRules.{writesRepeats, writesAtAddress}
 use Rattle.module_model.specs.declared.phases.Phase.the-variants.{Ready}
 use Rattle.module_model.specs.declared.events.Event.the-variants.{Frame}
 use Rattle.module_model.specs.declared.rules.Put.the-variants.{Nowhere}
@@ -194,6 +196,84 @@ compares-nothing-refuted promise =
     (told (z0 ∷ z1 ∷ z2 ∷ []) z0 (z1 ∷ z2 ∷ []) z2 last ((λ r. refl), ((λ r. refl), tt))
     (promise (online flash) (given flash declares ∷ given flash sends ∷ []) (given image other) (tiny-bytes .0, (tiny-bytes .1, tt))
     other-bytes (rw (trusting-heard .2) (List·Memᴰ·tail (List·Memᴰ·head refl)))))
+
+-- ---- sizes are not compared
+
+abbrev loose : Step
+loose = stepBy comparesNoSize
+
+-- Packet 2 of 2 with three bytes, and a flash that somebody else wrote before it.
+abbrev shorter : Offer
+shorter = record { event = Frame 5 9; payload = 2 ∷ 0 ∷ 2 ∷ 0 ∷ 3 ∷ 0 ∷ 5 ∷ 6 ∷ 7 ∷ []; reply = zeros64 }
+
+shorter-bytes : Bytes (shorter .payload)
+unfolding spelled little
+shorter-bytes = bytes-spelled 9 (little (shorter .payload))
+
+abbrev s0 : Exchange
+s0 = exchangeBy loose (opened flash8) (given flash8 declares8)
+
+abbrev s1 : Exchange
+s1 = exchangeBy loose (s0 .left .session) (given flash8 sends1)
+
+abbrev s2 : Exchange
+s2 = exchangeBy loose (s1 .left .session) (given flash8 shorter)
+
+loose-heard : (heardOf s0 ≡ parametersReply largestPacket accepted ∷ []) × (heardOf s1 ≡ packetReply 1 accepted ∷ [])
+    × (heardOf s2 ≡ packetReply 2 accepted ∷ notice 0 ∷ [])
+unfolding openingOf takes alive openable cuts loadingArises kindOf fitsFlash countOf sizeAt numberAt little rules.decideOf rules.parametersDecision
+    rules.kindDecision rules.packetDecision rules.wellFormed rules.numbersIn rules.firstDecision rules.loadingDecision rules.isPacket
+    rules.cutsInto rules.phaseAt rules.stateOf
+loose-heard = (
+  heard-performed (opened flash8) (comparesNoSize Ready 2 (declares8 .payload) flash8) (declares8 .payload) flash8 (declares8 .reply),
+  heard-performed begun8 (comparesNoSize (begun8 .phase) 5 (sends1 .payload) flash8) (sends1 .payload) flash8 (sends1 .reply),
+  heard-performed loading8 (comparesNoSize (loading8 .phase) 5 (shorter .payload) flash8) (shorter .payload) flash8 (shorter .reply),
+)
+
+-- Both are first acknowledgements.
+first-one : FirstAcknowledged 1 (s1 ∷ s2 ∷ []) s1
+first-one = record {
+  before = [];
+  after = s2 ∷ [];
+  split = refl;
+  says = rw (loose-heard .1) (List·Memᴰ·head refl);
+  none = λ a. List·Memᴰ·not-nil (a .there);
+}
+
+first-two : FirstAcknowledged 2 (s1 ∷ s2 ∷ []) s2
+unfolding spelled
+first-two = record {
+  before = s1 ∷ [];
+  after = [];
+  split = refl;
+  says = rw (loose-heard .2) (List·Memᴰ·head refl);
+  none = λ a.
+      let says : Says s1 (packetReply 2 accepted) = rw (List·Memᴰ·eq-of-singleton (a .there)) at (a .says) in
+      let same : packetReply 2 accepted ≡ packetReply 1 accepted = List·Memᴰ·eq-of-singleton (rw (loose-heard .1) at says) in
+      let first : _≡_ {A = ℕ} 2 1 = ap (λ (f : wire.Frame). getD (f .payload) 0 0) same in
+      omega (arith, first);
+}
+
+-- Together they are not as long as declared.
+not-loose : (pieces : List (List ℕ)) → AcceptedData s0 (s1 ∷ s2 ∷ []) 2 pieces → ⊥
+unfolding numberAt little
+not-loose pieces a =
+    let joins = two-pieces pieces (1 ∷ 2 ∷ 3 ∷ 4 ∷ []) (5 ∷ 6 ∷ 7 ∷ []) (a .count) (a .first s1 1 (omega arith) (omega arith) first-one)
+    (a .first s2 2 (omega arith) (omega arith) first-two) in
+    let seven : _≡_ {A = ℕ} 7 8 = sym (ap length joins) ∙ a .whole in
+    omega (arith, seven)
+
+pub compares-no-size-refuted : SuccessHoldsOf loose → ⊥
+unfolding runBy afterBy openingOf takes alive openable cuts loadingArises kindOf fitsFlash countOf sizeAt numberAt little rules.decideOf
+    rules.parametersDecision rules.kindDecision rules.packetDecision rules.wellFormed rules.numbersIn rules.firstDecision
+    rules.loadingDecision rules.isPacket rules.cutsInto rules.phaseAt
+compares-no-size-refuted promise =
+    let last = last-first s0 (s1 ∷ s2 ∷ []) (rw (loose-heard .0) (List·Memᴰ·head refl))
+    (no-parameters s1 _ (loose-heard .1) (refl, tt), (no-parameters s2 _ (loose-heard .2) (refl, (refl, tt)), tt)) in
+    let f = promise (online flash8) (given flash8 declares8 ∷ given flash8 sends1 ∷ []) (given flash8 shorter)
+    (eight-bytes .0, (eight-bytes .1, tt)) shorter-bytes (rw (loose-heard .2) (List·Memᴰ·tail (List·Memᴰ·head refl))) in
+    let same = last-only (s0 ∷ s1 ∷ s2 ∷ []) (f .parameters) (f .since) s0 (s1 ∷ s2 ∷ []) (f .last) last in
+    not-loose (f .pieces) (rw (same .0, same .1) at (f .accepts))
 
 -- ---- one place further on
 

@@ -7,6 +7,7 @@ use lib.Dec.{eqb, ltb}
 use lib.ListN.{length, take}
 use Rattle.refusals.specs.Refusals.{noRoom, wrongLength}
 use Rattle.kinds.specs.Kinds.{baseOf, tokenOf}
+use Rattle.pieces.specs.Pieces.{sizeAt}
 use Rattle.commands.specs.Commands.{packetCommand, accepted}
 use Rattle.module_model.specs.Phases.{totalOf}
 use Rattle.module_model.specs.Rules.{notTaken, dataIn, numbersIn, placeOf, isPacket, acknowledgeOf, loadingDecision, decideOf}
@@ -133,6 +134,21 @@ anyTotal (Done p written) command payload flash d = d
 
 abbrev pub comparesNoTotal : Rule
 comparesNoTotal phase command payload flash = anyTotal phase command payload flash (decideOf phase command payload flash)
+
+-- While loading, the size of a packet is not compared.
+abbrev anySize : Phase → ℕ → List ℕ → List ℕ → Decision → Decision
+anySize Closed command payload flash d = d
+anySize Ready command payload flash d = d
+anySize (Begun t) command payload flash d = d
+anySize (Loading p number written) command payload flash d =
+    let given = numbersIn payload in
+    let size = sizeAt (p .transfer .extent) (p .size) (given .number) in
+    cond (eqb command packetCommand)
+    (loadingDecision p number written (record { total = given .total; number = given .number; size = size }) (dataIn payload) flash) d
+anySize (Done p written) command payload flash d = d
+
+abbrev pub comparesNoSize : Rule
+comparesNoSize phase command payload flash = anySize phase command payload flash (decideOf phase command payload flash)
 
 -- A packet whose number is its Total ends the transfer, whichever came before it.
 abbrev lastAtOnce : Phase → ℕ → Numbers → Decision → Decision

@@ -17,7 +17,7 @@ use Rattle.module.specs.Session.{session, openingOf, takes}
 use Rattle.module_promises.specs.Runs.{Step, Exchange, Offer, given, exchangeBy, afterBy, runBy, Says}
 use Rattle.module_promises.specs.RunsLaws.{heard-performed}
 use Rattle.module_promises.specs.Promises.{online, opened, SuccessExactlyOf, Expected, ExpectedSucceedsOf}
-use Rattle.module_promises.specs.Promises.{RepeatsLast, RepeatSucceedsOf}
+use Rattle.module_promises.specs.Promises.{PacketFrame, RepeatsLast, RepeatSucceedsOf}
 use Rattle.module_promises.specs.Tiny.{flash, image, declares, sends, tiny-bytes, flash8, declares8, sends1, eight-bytes, heardOf}
 use Rattle.module_promises.specs.Tiny.{sends2, zeros64, begun4, done4, begun8, loading8, has-none, no-parameters, last-first}
 use Rattle.module_promises.specs.When.{last-only}
@@ -192,6 +192,11 @@ refuser-heard = (
   heard-performed begun4 (rules.notTaken (begun4 .phase)) (sends .payload) flash (sends .reply),
 )
 
+-- The packet is a frame with Total 1, number 1 and size 4.
+one-frame : PacketFrame (given flash sends) 1 1 4
+unfolding numberAt little
+one-frame = record { count = 10; packet = refl; total-field = refl; number-field = refl; size-field = refl; long = refl }
+
 -- Packet 1 of 1 is expected while it has not been acknowledged.
 one-expected : (step : Step) (since : List Exchange)
     → ((x : Exchange) → List·Memᴰ x since → Says x (packetReply 1 accepted) → ⊥)
@@ -215,8 +220,7 @@ unfolding runBy afterBy openingOf takes alive openable kindOf fitsFlash countOf 
 refuses-all-refuted promise =
     let last = last-first started [] (rw (refuser-heard .0) (List·Memᴰ·head refl)) tt in
     let both = promise (online flash) (given flash declares ∷ []) (given flash sends) (tiny-bytes .0, tt) (tiny-bytes .1) started [] last 4 1
-    (one-expected refuser [] (λ x m. absurd (List·Memᴰ·not-nil m)))
-    (record { count = 10; packet = refl; total-field = refl; number-field = refl; size-field = refl; long = refl }) refl refl in
+    (one-expected refuser [] (λ x m. absurd (List·Memᴰ·not-nil m))) one-frame refl refl in
     plain-quiet (Packet 0 notUnderstood) (refl, refl) .no-packet 1 (rw (refuser-heard .1) at (both .0))
 
 -- ---- no notice
@@ -244,7 +248,7 @@ unfolding runBy afterBy openingOf takes alive openable kindOf fitsFlash countOf 
 says-no-notice-refuted promise =
     let last = last-first begins [] (rw (silent-heard .0) (List·Memᴰ·head refl)) tt in
     let both = promise (online flash) (given flash declares ∷ []) (given flash sends) (tiny-bytes .0, tt) (tiny-bytes .1) begins [] last 4 1
-    (one-expected silent [] (λ x m. absurd (List·Memᴰ·not-nil m))) (record { count = 10; packet = refl; total-field = refl; number-field = refl; size-field = refl; long = refl })
+    (one-expected silent [] (λ x m. absurd (List·Memᴰ·not-nil m))) one-frame
     refl refl in
     has-none noticeCommand (packetReply 1 accepted ∷ []) (notice 0) (refl, tt) (rw (silent-heard .1) at (both .1 refl)) refl
 
@@ -294,6 +298,5 @@ unfolding runBy afterBy openingOf takes alive openable kindOf fitsFlash countOf 
 drops-transfer-refuted promise =
     let last = last-first d0 (d1 ∷ []) (rw (dropping-heard .0) (List·Memᴰ·head refl)) (refused-quiet .no-parameters largestPacket, tt) in
     let both = promise (online flash) (given flash declares ∷ given flash tooLong ∷ []) (given flash sends) (tiny-bytes .0, (long-bytes, tt))
-    (tiny-bytes .1) d0 (d1 ∷ []) last 4 1 still-expected
-    (record { count = 10; packet = refl; total-field = refl; number-field = refl; size-field = refl; long = refl }) refl refl in
+    (tiny-bytes .1) d0 (d1 ∷ []) last 4 1 still-expected one-frame refl refl in
     plain-quiet (Packet 0 notUnderstood) (refl, refl) .no-packet 1 (rw (dropping-heard .2) at (both .0))
