@@ -15,6 +15,7 @@ pub mod Flash
 pub mod When
 pub mod Reach
 pub mod Clean
+pub mod AmongRefused
 pub mod Readings
 pub mod IdleSum
 pub mod RefusedWhen

@@ -261,8 +261,8 @@ OnlyInRange = OnlyInRangeOf stepOf
 
 -- ---- M3, the clean transfer
 
--- A reply buffer under 64 bytes is offered, so that the event is refused with 2: it is neither time nor a frame. (Where nobody else
--- writes, the flash is lent as the last step left it, so none of another length, refused with 3, can come.)
+-- A reply buffer under 64 bytes is offered, so that the event is refused with 2: it is neither time nor a frame. (Those
+-- refused with 3 are lent another flash: CleanAmongRefused.)
 abbrev pub NoRoom : Offer → Type 0
 NoRoom o = length (o .reply) < smallestReply
 
@@ -329,6 +329,27 @@ CleanSucceedsOf step =
 
 abbrev pub CleanSucceeds : Type 0
 CleanSucceeds = CleanSucceedsOf stepOf
+
+-- The exchanges that were not refused, and what was offered in some exchanges.
+abbrev pub taken : List Exchange → List Exchange
+taken [] = []
+taken (x ∷ xs) = cond (isRefused (x .left .answer)) (taken xs) (x ∷ taken xs)
+
+abbrev pub offered : List Exchange → List Offer
+offered [] = []
+offered (x ∷ xs) = record { event = x .given .event; payload = x .given .payload; reply = x .given .reply } ∷ offered xs
+
+-- M3, among events refused with 2 or 3 (AmongRefused.antt). They may come anywhere, frames and time, over any flash and with any reply
+-- buffer: if what is taken of a run is a clean transfer over a flash that nobody else writes, it ends in success as above.
+abbrev pub CleanAmongRefusedOf : Step → Type 0
+CleanAmongRefusedOf step =
+    (s : Session) (flash : List ℕ) (kind : Kind) (image : List ℕ) (size : ℕ) (gs : List Given) → takes s ≡ true
+    → length flash ≡ s .flash → Fits kind image size flash → NobodyElse flash (runBy step s gs)
+    → CleanTransfer (s .idle) kind image size (offered (taken (runBy step s gs)))
+    → EndsInSuccess (taken (runBy step s gs)) (countOf (length image) size) (laid flash (baseOf kind) image)
+
+abbrev pub CleanAmongRefused : Type 0
+CleanAmongRefused = CleanAmongRefusedOf stepOf
 
 -- ---- M4, idle
 
