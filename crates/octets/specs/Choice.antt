@@ -32,8 +32,8 @@ one-holds true b h k e = h refl
 one-holds false b h k e = k e
 
 -- What a call answered, turned round by a test of its negation: the definition that it equals.
-pub passed : {x t : Bool} → x ≡ t → not x ≡ false → t ≡ true
-passed {x} e h = sym e ∙ not-false x h
+pub test-passed : {x t : Bool} → x ≡ t → not x ≡ false → t ≡ true
+test-passed {x} e h = sym e ∙ not-false x h
 
-pub failed : {x t : Bool} → x ≡ t → not x ≡ true → t ≡ false
-failed {x} e h = sym e ∙ not-true x h
+pub test-failed : {x t : Bool} → x ≡ t → not x ≡ true → t ≡ false
+test-failed {x} e h = sym e ∙ not-true x h

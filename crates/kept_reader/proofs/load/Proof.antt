@@ -1,6 +1,6 @@
 -- `load`: bytes that stand for no reader are a fresh one.
 use mathlib.Core.Path.{sym, _∙_}
-use Rattle.octets.specs.Choice.{cond-yes, cond-no, passed, failed}
+use Rattle.octets.specs.Choice.{cond-yes, cond-no, test-passed, test-failed}
 use Rattle.kept_reader.specs.Kept.{readerIn}
 use borrow.Author.Needs.{needs}
 use Rattle.kept_reader.proofs.load.Statement.{statement}
@@ -24,7 +24,7 @@ new-requires c κs = search needs
 -- src/lib.rt:55:9
 returns : tie.Need-returns
 unfolding readerIn
-returns c = c .new .ensures ∙ sym (cond-no _ _ _ (failed (c .before .before .stands-for-one .ensures) (c .before .if1 .taken)))
+returns c = c .new .ensures ∙ sym (cond-no _ _ _ (test-failed (c .before .before .stands-for-one .ensures) (c .before .if1 .taken)))
 
 -- src/lib.rt:58:16
 store-in-requires : tie.Need-store-in-requires
@@ -57,7 +57,7 @@ returns-2 c =
       c .before .four-at2 .ensures,
       c .four-at3 .ensures,
     )
-    (sym (cond-yes _ _ _ (passed (c .before .before .before .before .before .before .stands-for-one .ensures) (c .before .before .before .before .before .if1 .left))))
+    (sym (cond-yes _ _ _ (test-passed (c .before .before .before .before .before .before .stands-for-one .ensures) (c .before .before .before .before .before .if1 .left))))
 
 pub load-spec : {M : Type 1} → statement M
 load-spec =

@@ -2,7 +2,7 @@
 use borrow.Author.Needs.{needs}
 use mathlib.Core.Bool.{Bool, _&&_}
 use mathlib.Core.Path.{refl, sym, ap, _∙_}
-use Rattle.octets.specs.Choice.{passed, failed}
+use Rattle.octets.specs.Choice.{test-passed, test-failed}
 use Rattle.host.specs.Session.{arises}
 use Rattle.kept_host.specs.Kept.{fieldsIn, stands}
 use Rattle.kept_host.specs.KeptLaws.{compared}
@@ -35,7 +35,7 @@ returns c =
     let same =
     compared st _ _ _ _ _ (d .before .before .before .before .before .before .fields-in .ensures) refl (d .before .before .before .before .write .ensures)
     (d .before .part .ensures) (d .same .ensures) in
-    sym (ap (λ (t : Bool). t && arises (fieldsIn st)) (failed same (c .if1 .taken)))
+    sym (ap (λ (t : Bool). t && arises (fieldsIn st)) (test-failed same (c .if1 .taken)))
 
 can-arise-requires : tie.Need-can-arise-requires
 can-arise-requires c κs = search needs
@@ -50,7 +50,7 @@ returns-2 c =
     (d .before .part .ensures) (d .same .ensures) in
     c .can-arise .ensures
     ∙ ap arises (d .before .before .before .before .before .before .fields-in .ensures)
-    ∙ sym (ap (λ (t : Bool). t && arises (fieldsIn st)) (passed same (c .before .if1 .left)))
+    ∙ sym (ap (λ (t : Bool). t && arises (fieldsIn st)) (test-passed same (c .before .if1 .left)))
 
 pub stands-spec : {M : Type 1} → statement M
 stands-spec =

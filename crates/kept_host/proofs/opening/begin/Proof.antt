@@ -1,7 +1,7 @@
 -- `begin`: wishes that are none, and the opening with those read.
 use borrow.Author.Needs.{needs}
 use mathlib.Core.Path.{sym, ap, _∙_}
-use Rattle.octets.specs.Choice.{cond-yes, cond-no, passed, failed}
+use Rattle.octets.specs.Choice.{cond-yes, cond-no, test-passed, test-failed}
 use Rattle.host.specs.Session.{stepped}
 use Rattle.host.specs.Step.{left}
 use Rattle.host.specs.declared.session.Session.{Session}
@@ -20,7 +20,7 @@ returns : tie.Need-returns
 unfolding openingBy
 returns c =
     ap (λ (s : Session). left (stepped s (Refused 106)) (c .before .before .before .before .before .args .out .now)) (c .over .ensures)
-    ∙ sym (cond-no _ _ _ (failed (c .before .before .known .ensures) (c .before .if1 .taken)))
+    ∙ sym (cond-no _ _ _ (test-failed (c .before .before .known .ensures) (c .before .if1 .taken)))
 
 rate-in-requires : tie.Need-rate-in-requires
 rate-in-requires c κs = search needs
@@ -43,7 +43,7 @@ returns-2 c =
     let d = c .before .before .before .before .before .before in
     c .before .before .opening .ensures
     ∙ rw (d .rate-in .ensures, c .before .before .before .before .before .start-in .ensures, c .before .before .before .before .same-in .ensures)
-    (sym (cond-yes _ _ _ (passed (d .before .before .known .ensures) (d .before .if1 .left))))
+    (sym (cond-yes _ _ _ (test-passed (d .before .before .known .ensures) (d .before .if1 .left))))
 
 pub begin-spec : {M : Type 1} → statement M
 begin-spec =

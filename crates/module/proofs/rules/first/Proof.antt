@@ -1,6 +1,6 @@
 -- `module::first`: the number is tested, then the size.
 use mathlib.Core.Path.{sym, _∙_}
-use Rattle.octets.specs.Choice.{passed, failed}
+use Rattle.octets.specs.Choice.{test-passed, test-failed}
 use Rattle.module_model.specs.RulesLaws.{first-taken, first-number, first-refused}
 use borrow.Author.Needs.{needs}
 use Rattle.module.proofs.rules.first.Statement.{statement}
@@ -21,7 +21,7 @@ packet-refused-requires-2 c κs = search needs
 returns-2 : tie.Need-returns-2
 returns-2 c =
     let at = c .before .before in
-    c .packet-refused2 .ensures ∙ sym (first-refused _ _ (at .before .if1 .left) (failed (at .cuts-into .ensures) (c .before .if2 .taken)))
+    c .packet-refused2 .ensures ∙ sym (first-refused _ _ (at .before .if1 .left) (test-failed (at .cuts-into .ensures) (c .before .if2 .taken)))
 
 taken-at-requires : tie.Need-taken-at-requires
 taken-at-requires c κs = search needs
@@ -29,7 +29,7 @@ taken-at-requires c κs = search needs
 returns-3 : tie.Need-returns-3
 returns-3 c =
     let at = c .before .before in
-    c .taken-at .ensures ∙ sym (first-taken _ _ (at .before .if1 .left) (passed (at .cuts-into .ensures) (c .before .if2 .left)))
+    c .taken-at .ensures ∙ sym (first-taken _ _ (at .before .if1 .left) (test-passed (at .cuts-into .ensures) (c .before .if2 .left)))
 
 pub first-spec : {M : Type 1} → statement M
 first-spec =

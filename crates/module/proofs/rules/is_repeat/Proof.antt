@@ -1,6 +1,6 @@
 -- `module::is_repeat`: the numbers are tested, then the bytes.
 use mathlib.Core.Path.{sym, ap, _∙_}
-use Rattle.octets.specs.Choice.{passed, failed}
+use Rattle.octets.specs.Choice.{test-passed, test-failed}
 use Rattle.octets.specs.Octets.{partOf, sameBytes}
 use Rattle.module_model.specs.RulesLaws.{repeat-other, repeat-bytes}
 use borrow.Author.Needs.{needs}
@@ -11,7 +11,7 @@ is-packet-requires : tie.Need-is-packet-requires
 is-packet-requires c κs = search needs
 
 returns : tie.Need-returns
-returns c = sym (repeat-other _ _ _ _ _ (failed (c .before .is-packet .ensures) (c .if1 .taken)))
+returns c = sym (repeat-other _ _ _ _ _ (test-failed (c .before .is-packet .ensures) (c .if1 .taken)))
 
 place-of-requires : tie.Need-place-of-requires
 place-of-requires c κs = search needs
@@ -29,7 +29,7 @@ returns-2 c =
     c .same .ensures
     ∙ ap (sameBytes (args .bytes .now))
     (c .before .part .ensures ∙ ap (λ place. partOf (args .flash .now) place (args .given .size)) (at .place-of .ensures))
-    ∙ sym (repeat-bytes _ _ _ _ _ (passed (at .before .before .is-packet .ensures) (at .before .if1 .left)))
+    ∙ sym (repeat-bytes _ _ _ _ _ (test-passed (at .before .before .is-packet .ensures) (at .before .if1 .left)))
 
 pub is-repeat-spec : {M : Type 1} → statement M
 is-repeat-spec =

@@ -1,7 +1,7 @@
 -- `module::packet`: the form of the payload decides, then the phase.
 use Prim.Native.Nat.{ℕ}
 use mathlib.Core.Path.{_≡_, sym, ap, ap₂, _∙_}
-use Rattle.octets.specs.Choice.{passed, failed}
+use Rattle.octets.specs.Choice.{test-passed, test-failed}
 use Rattle.module_model.specs.Rules.{numbersIn, wellFormed, phaseDecision}
 use Rattle.module_model.specs.RulesLaws.{formed, packet-formed, packet-unformed}
 use borrow.Author.Needs.{needs}
@@ -27,7 +27,7 @@ returns : tie.Need-returns
 returns c =
     let at = c .before .before in
     c .packet-refused .ensures
-    ∙ sym (packet-unformed _ _ _ (form at _ ∙ failed (at .well-formed .ensures) (c .before .if1 .taken)))
+    ∙ sym (packet-unformed _ _ _ (form at _ ∙ test-failed (at .well-formed .ensures) (c .before .if1 .taken)))
 
 behind-requires : tie.Need-behind-requires
 behind-requires c κs = search needs
@@ -35,7 +35,7 @@ behind-requires c κs = search needs
 packet-at-requires : tie.Need-packet-at-requires
 packet-at-requires c κs =
     let at = c .before .before in
-    (at .before .before .before .before .pre, formed _ _ (passed (at .well-formed .ensures) (c .before .if1 .left)) .most)
+    (at .before .before .before .before .pre, formed _ _ (test-passed (at .well-formed .ensures) (c .before .if1 .left)) .most)
 
 returns-2 : tie.Need-returns-2
 returns-2 c =
@@ -44,7 +44,7 @@ returns-2 c =
     let numbers = at .before .numbers-in .ensures in
     c .packet-at .ensures
     ∙ ap₂ (λ g bytes. phaseDecision (args .phase) g bytes (args .flash .now)) numbers (c .before .behind .ensures)
-    ∙ sym (packet-formed _ _ _ (form at _ ∙ passed (at .well-formed .ensures) (c .before .before .if1 .left)))
+    ∙ sym (packet-formed _ _ _ (form at _ ∙ test-passed (at .well-formed .ensures) (c .before .before .if1 .left)))
 
 pub packet-spec : {M : Type 1} → statement M
 packet-spec =

@@ -1,6 +1,6 @@
 -- `module::parameters_of`: the address decides, then the length.
 use mathlib.Core.Path.{_≡_, sym, ap, _∙_}
-use Rattle.octets.specs.Choice.{passed, failed}
+use Rattle.octets.specs.Choice.{test-passed, test-failed}
 use Rattle.octets.specs.Octets.{numberAt}
 use Rattle.kinds.specs.Kinds.{tokenOf, fitsFlash}
 use Rattle.commands.specs.Commands.{accepted}
@@ -65,7 +65,7 @@ unmoved-say-requires-2 c κs = search needs
 returns-2 : tie.Need-returns-2
 returns-2 c =
     let at = c .before .before in
-    c .unmoved-say2 .ensures ∙ sym (kind-length _ _ _ _ (address at) (failed (fits at) (c .before .if2 .taken)))
+    c .unmoved-say2 .ensures ∙ sym (kind-length _ _ _ _ (address at) (test-failed (fits at) (c .before .if2 .taken)))
 
 unmoved-say-requires-3 : tie.Need-unmoved-say-requires-3
 unmoved-say-requires-3 c κs = search needs
@@ -76,7 +76,7 @@ returns-3 c =
     let kind = at .before .before .before .before .before .before .before .args .kind in
     c .unmoved-say3 .ensures
     ∙ ap (λ n. unmoved (Begun (record { kind = kind; extent = n })) (Parameters accepted)) (long at)
-    ∙ sym (kind-begins _ _ _ _ (address at) (passed (fits at) (c .before .if2 .left)))
+    ∙ sym (kind-begins _ _ _ _ (address at) (test-passed (fits at) (c .before .if2 .left)))
 
 pub parameters-of-spec : {M : Type 1} → statement M
 parameters-of-spec =

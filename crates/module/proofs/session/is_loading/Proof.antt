@@ -6,7 +6,7 @@ use mathlib.Core.Path.{_≡_}
 use native.Mathlib.Omega.{arith}
 use native.Mathlib.Nat.{mul-le-mul}
 use borrow.Author.Tests.{le-leb, lt-leb, lt-ltb, le-ltb}
-use Rattle.octets.specs.Choice.{passed, failed}
+use Rattle.octets.specs.Choice.{test-passed, test-failed}
 use Rattle.commands.specs.Commands.{largestPacket, largestTotal}
 use Rattle.module_model.specs.Phases.{totalOf, fits, cuts, loadingArises}
 use Rattle.module_model.specs.PhasesLaws.{cuts-facts}
@@ -15,24 +15,24 @@ use Rattle.module.proofs.session.is_loading.Tie as tie
 
 -- Behind the first test the transfer fits, behind the second its size cuts it.
 fitted : (c : tie.Else1) → fits (c .before .before .before .args .pieces .transfer) (c .before .before .before .args .flash) ≡ true
-fitted c = passed (c .before .is-fit .ensures) (c .if1 .left)
+fitted c = test-passed (c .before .is-fit .ensures) (c .if1 .left)
 
 cut : (c : tie.Else2) → cuts (c .before .before .before .before .before .args .pieces) ≡ true
-cut c = passed (c .before .is-cut .ensures) (c .if2 .left)
+cut c = test-passed (c .before .is-cut .ensures) (c .if2 .left)
 
 is-fit-requires : tie.Need-is-fit-requires
 is-fit-requires c κs = search needs
 
 returns : tie.Need-returns
 unfolding loadingArises
-returns c = rw (failed (c .before .is-fit .ensures) (c .if1 .taken))
+returns c = rw (test-failed (c .before .is-fit .ensures) (c .if1 .taken))
 
 is-cut-requires : tie.Need-is-cut-requires
 is-cut-requires c κs = search needs
 
 returns-2 : tie.Need-returns-2
 unfolding loadingArises
-returns-2 c = rw (fitted (c .before .before), failed (c .before .is-cut .ensures) (c .if2 .taken))
+returns-2 c = rw (fitted (c .before .before), test-failed (c .before .is-cut .ensures) (c .if2 .taken))
 
 returns-3 : tie.Need-returns-3
 unfolding loadingArises

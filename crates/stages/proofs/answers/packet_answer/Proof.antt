@@ -1,6 +1,6 @@
 -- `packet_answer`: the rule of the command, where command and length fit.
 use mathlib.Core.Path.{sym, ap₂, _∙_}
-use Rattle.octets.specs.Choice.{cond-yes, cond-no, passed, failed}
+use Rattle.octets.specs.Choice.{cond-yes, cond-no, test-passed, test-failed}
 use Rattle.host_model.specs.Answers.{packetMove}
 use borrow.Author.Needs.{needs}
 use Rattle.stages.proofs.answers.packet_answer.Statement.{statement}
@@ -10,7 +10,7 @@ fits-requires : tie.Need-fits-requires
 fits-requires c κs = search needs
 
 returns : tie.Need-returns
-returns c = sym (cond-no _ _ _ (failed (c .before .fits2 .ensures) (c .if1 .taken)))
+returns c = sym (cond-no _ _ _ (test-failed (c .before .fits2 .ensures) (c .if1 .taken)))
 
 two-at-requires : tie.Need-two-at-requires
 two-at-requires c κs = search needs
@@ -30,7 +30,7 @@ returns-2 c =
     c .packet-move .ensures
     ∙ ap₂ (packetMove _ _ _ _ _) (c .before .before .wide .ensures .0 ∙ c .before .before .before .two-at .ensures)
     (c .before .byte-at .ensures)
-    ∙ sym (cond-yes _ _ _ (passed (test .before .fits2 .ensures) (test .if1 .left)))
+    ∙ sym (cond-yes _ _ _ (test-passed (test .before .fits2 .ensures) (test .if1 .left)))
 
 pub packet-answer-spec : {M : Type 1} → statement M
 packet-answer-spec =

@@ -1,6 +1,6 @@
 -- `ubf_block::filled`: the texts as they stand in the block, then the gap.
 use mathlib.Core.Path.{_≡_, ap, _∙_}
-use Rattle.octets.specs.Choice.{passed, failed}
+use Rattle.octets.specs.Choice.{test-passed, test-failed}
 use Rattle.octets.specs.Octets.{allZero, partOf}
 use Rattle.ubf_model.specs.Block.{modelIn, versionIn, nameIn, dateIn, textsFit, filledIn}
 use Rattle.ubf_model.specs.Block.{headerSize}
@@ -30,7 +30,7 @@ texts-fit-requires c κs = search needs
 
 returns : tie.Need-returns
 unfolding filledIn
-returns c = rw (failed (texts-are (c .before)) (c .if1 .taken))
+returns c = rw (test-failed (texts-are (c .before)) (c .if1 .taken))
 
 part-requires : tie.Need-part-requires
 part-requires c κs = search needs
@@ -42,7 +42,7 @@ returns-2 : tie.Need-returns-2
 unfolding filledIn
 returns-2 c =
     let s = c .before .before .before .before .before .before .before .before .before .args .s .now in
-    rw (passed (texts-are (c .before .before .before)) (c .before .before .if1 .left))
+    rw (test-passed (texts-are (c .before .before .before)) (c .before .before .if1 .left))
     (c .zeros .ensures ∙ ap allZero (c .before .part .ensures ∙ ap (partOf s headerSize) (c .before .before .before .before .before .before .before .before .before .pre)))
 
 pub filled-spec : {M : Type 1} → statement M

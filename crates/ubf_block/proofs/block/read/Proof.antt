@@ -1,7 +1,7 @@
 -- `ubf_block::read`: header and mark first; then the type's kind decides who reads on.
 use mathlib.Core.Path.{_≡_, sym, ap, _∙_}
 use borrow.Author.Tests.{le-leb, lt-leb}
-use Rattle.octets.specs.Choice.{cond-yes, cond-no, failed, passed}
+use Rattle.octets.specs.Choice.{cond-yes, cond-no, test-failed, test-passed}
 use Rattle.kinds.specs.Kinds.{kindOf}
 use Rattle.ubf_model.specs.Block.{headerSize, typeIn, knownBlock, blockOf}
 use borrow.Author.Needs.{needs}
@@ -16,7 +16,7 @@ unfolding blockOf
 passed-both c =
     sym
     (cond-yes _ _ _ (le-leb headerSize _ (c .before .before .before .before .if1 .left))
-    ∙ cond-yes _ _ _ (passed (c .before .before .before .marked .ensures) (c .before .before .if2 .left)))
+    ∙ cond-yes _ _ _ (test-passed (c .before .before .before .marked .ensures) (c .before .before .if2 .left)))
 
 returns : tie.Need-returns
 unfolding blockOf
@@ -28,7 +28,7 @@ marked-requires c κs = search needs
 returns-2 : tie.Need-returns-2
 unfolding blockOf
 returns-2 c =
-    sym (cond-yes _ _ _ (le-leb headerSize _ (c .before .before .if1 .left)) ∙ cond-no _ _ _ (failed (c .before .marked .ensures) (c .if2 .taken)))
+    sym (cond-yes _ _ _ (le-leb headerSize _ (c .before .before .if1 .left)) ∙ cond-no _ _ _ (test-failed (c .before .marked .ensures) (c .if2 .taken)))
 
 two-at-requires : tie.Need-two-at-requires
 two-at-requires c κs = search needs

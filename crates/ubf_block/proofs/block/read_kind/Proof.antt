@@ -6,7 +6,7 @@ use native.Mathlib.Omega.{arith}
 use borrow.Author.Tests.{eq-eqb, ne-eqb, le-leb, lt-leb}
 use lib.Dec.{eqb, leb}
 use lib.ListN.{length}
-use Rattle.octets.specs.Choice.{cond-yes, cond-no, passed, failed}
+use Rattle.octets.specs.Choice.{cond-yes, cond-no, test-passed, test-failed}
 use Rattle.octets.specs.Octets.{numberAt, partOf, xorWords}
 use Rattle.kinds.specs.Kinds.{baseOf, fitsFile}
 use Rattle.ubf_model.specs.Block.{headerSize, lengthIn, addressIn, startIn, imageIn, checkIn, filledIn, kindBlock}
@@ -27,7 +27,7 @@ address-passed : (c : tie.Else1) → eqb (addressIn (c .before .before .before .
 address-passed c = eq-eqb _ _ (sym (c .before .before .four-at .ensures) ∙ c .if1 .left ∙ c .before .base-of .ensures)
 
 length-passed : (c : tie.Else2) → fitsFile (c .before .before .before .before .before .before .before .before .args .kind) (lengthIn (c .before .before .before .before .before .before .before .before .args .s .now)) ≡ true
-length-passed c = sym (ap (fitsFile (c .before .before .before .before .before .before .before .before .args .kind)) (long-is (c .before .before))) ∙ passed (c .before .fits-file .ensures) (c .if2 .left)
+length-passed c = sym (ap (fitsFile (c .before .before .before .before .before .before .before .before .args .kind)) (long-is (c .before .before))) ∙ test-passed (c .before .fits-file .ensures) (c .if2 .left)
 
 start-passed : (c : tie.Else3) → leb headerSize (startIn (c .before .before .before .before .before .before .before .before .before .before .before .args .s .now)) ≡ true
 start-passed c = le-leb headerSize (startIn (c .before .before .before .before .before .before .before .before .before .before .before .args .s .now)) (omega (arith, from-is (c .before)))
@@ -38,7 +38,7 @@ there-passed c =
     le-leb (startIn s + lengthIn s + 4) (length s) (omega (arith, from-is (c .before .before), long-is (c .before .before .before .before .before .before)))
 
 filled-passed : (c : tie.Else5) → filledIn (c .before .before .before .before .before .before .before .before .before .before .before .before .before .before .args .s .now) ≡ true
-filled-passed c = passed (c .before .filled .ensures) (c .if5 .left)
+filled-passed c = test-passed (c .before .filled .ensures) (c .if5 .left)
 
 -- The check that was read and the one that was worked out.
 check-is : (c : tie.After-four-at4) → c .four-at4 .result ≡ checkIn (c .before .before .before .before .before .before .before .before .before .before .before .before .before .before .before .args .s .now)
@@ -76,7 +76,7 @@ unfolding kindBlock
 returns-2 c =
     sym
     (cond-yes _ _ _ (address-passed (c .before .before .before .before))
-    ∙ cond-no _ _ _ (sym (ap (fitsFile (c .before .before .before .before .before .before .before .before .args .kind)) (long-is (c .before .before))) ∙ failed (c .before .fits-file .ensures) (c .if2 .taken)))
+    ∙ cond-no _ _ _ (sym (ap (fitsFile (c .before .before .before .before .before .before .before .before .args .kind)) (long-is (c .before .before))) ∙ test-failed (c .before .fits-file .ensures) (c .if2 .taken)))
 
 four-at-requires-3 : tie.Need-four-at-requires-3
 four-at-requires-3 c κs = search needs
@@ -119,7 +119,7 @@ returns-5 c =
     ∙ cond-yes _ _ _ (length-passed (c .before .before .before .before .before .before))
     ∙ cond-yes _ _ _ (start-passed (c .before .before .before))
     ∙ cond-yes _ _ _ (there-passed (c .before .before))
-    ∙ cond-no _ _ _ (failed (c .before .filled .ensures) (c .if5 .taken)))
+    ∙ cond-no _ _ _ (test-failed (c .before .filled .ensures) (c .if5 .taken)))
 
 add-four-at : tie.Need-add-four-at
 add-four-at c = search needs

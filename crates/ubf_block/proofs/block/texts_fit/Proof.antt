@@ -1,5 +1,5 @@
 -- `ubf_block::texts_fit`: the four texts in order; each that fails decides.
-use Rattle.octets.specs.Choice.{passed, failed}
+use Rattle.octets.specs.Choice.{test-passed, test-failed}
 use Rattle.ubf_model.specs.Block.{textsFit}
 use borrow.Author.Needs.{needs}
 use Rattle.ubf_block.proofs.block.texts_fit.Statement.{statement}
@@ -12,7 +12,7 @@ returns : tie.Need-returns
 unfolding textsFit
 returns c =
     rw
-    (failed (c .before .text-fits .ensures) (c .if1 .taken))
+    (test-failed (c .before .text-fits .ensures) (c .if1 .taken))
 
 text-fits-requires-2 : tie.Need-text-fits-requires-2
 text-fits-requires-2 c κs = search needs
@@ -21,8 +21,8 @@ returns-2 : tie.Need-returns-2
 unfolding textsFit
 returns-2 c =
     rw (
-      passed (c .before .before .before .text-fits .ensures) (c .before .before .if1 .left),
-      failed (c .before .text-fits2 .ensures) (c .if2 .taken),
+      test-passed (c .before .before .before .text-fits .ensures) (c .before .before .if1 .left),
+      test-failed (c .before .text-fits2 .ensures) (c .if2 .taken),
     )
 
 text-fits-requires-3 : tie.Need-text-fits-requires-3
@@ -32,9 +32,9 @@ returns-3 : tie.Need-returns-3
 unfolding textsFit
 returns-3 c =
     rw (
-      passed (c .before .before .before .before .before .text-fits .ensures) (c .before .before .before .before .if1 .left),
-      passed (c .before .before .before .text-fits2 .ensures) (c .before .before .if2 .left),
-      failed (c .before .text-fits3 .ensures) (c .if3 .taken),
+      test-passed (c .before .before .before .before .before .text-fits .ensures) (c .before .before .before .before .if1 .left),
+      test-passed (c .before .before .before .text-fits2 .ensures) (c .before .before .if2 .left),
+      test-failed (c .before .text-fits3 .ensures) (c .if3 .taken),
     )
 
 text-fits-requires-4 : tie.Need-text-fits-requires-4
@@ -44,9 +44,9 @@ returns-4 : tie.Need-returns-4
 unfolding textsFit
 returns-4 c =
     rw (
-      passed (c .before .before .before .before .before .before .text-fits .ensures) (c .before .before .before .before .before .if1 .left),
-      passed (c .before .before .before .before .text-fits2 .ensures) (c .before .before .before .if2 .left),
-      passed (c .before .before .text-fits3 .ensures) (c .before .if3 .left),
+      test-passed (c .before .before .before .before .before .before .text-fits .ensures) (c .before .before .before .before .before .if1 .left),
+      test-passed (c .before .before .before .before .text-fits2 .ensures) (c .before .before .before .if2 .left),
+      test-passed (c .before .before .text-fits3 .ensures) (c .before .if3 .left),
     )
     (c .text-fits4 .ensures)
 

@@ -7,7 +7,7 @@ use native.Mathlib.Omega.{arith}
 use borrow.Author.Tests.{le-leb, lt-leb}
 use lib.Dec.{leb}
 use lib.ListN.{length, replicate}
-use Rattle.octets.specs.Choice.{cond-yes, cond-no, passed, failed}
+use Rattle.octets.specs.Choice.{cond-yes, cond-no, test-passed, test-failed}
 use Rattle.octets.specs.Octets.{laid, over, layAll, spelled, xorWords}
 use Rattle.kinds.specs.Kinds.{kindOf}
 use Rattle.ubf_model.specs.Block.{headerSize, textsFit}
@@ -25,10 +25,10 @@ laidBehind out image n =
 
 -- What holds behind each test that was passed.
 pairs-passed : (c : tie.Else1) → pairs (kindOf (c .before .before .before .before .before .before .before .before .args .numbers .number)) (c .before .before .before .before .before .before .before .before .args .numbers .address) ≡ true
-pairs-passed c = passed (c .before .type-pairs .ensures) (c .if1 .left)
+pairs-passed c = test-passed (c .before .type-pairs .ensures) (c .if1 .left)
 
 fits-passed : (c : tie.Else2) → fits (kindOf (c .before .before .before .before .before .before .before .before .before .before .args .numbers .number)) (length (c .before .before .before .before .before .before .before .before .before .before .args .image .now)) ≡ true
-fits-passed c = passed (c .before .image-fits .ensures) (c .if2 .left)
+fits-passed c = test-passed (c .before .image-fits .ensures) (c .if2 .left)
 
 start-behind : (c : tie.Else3) → headerSize ≤ c .before .before .before .before .before .before .before .before .before .before .before .before .args .numbers .start
 start-behind c = omega (arith, c .before .wide .ensures .0)
@@ -38,14 +38,14 @@ start-passed c = le-leb headerSize (c .before .before .before .before .before .b
 
 texts-passed : (c : tie.Else4)
     → textsFit (c .before .before .before .before .before .before .before .before .before .before .before .before .before .before .args .model .now) (c .before .before .before .before .before .before .before .before .before .before .before .before .before .before .args .version .now) (c .before .before .before .before .before .before .before .before .before .before .before .before .before .before .args .name .now) (c .before .before .before .before .before .before .before .before .before .before .before .before .before .before .args .date .now) ≡ true
-texts-passed c = passed (c .before .texts-fit .ensures) (c .if4 .left)
+texts-passed c = test-passed (c .before .texts-fit .ensures) (c .if4 .left)
 
 type-pairs-requires : tie.Need-type-pairs-requires
 type-pairs-requires c κs = search needs
 
 returns : tie.Need-returns
 unfolding packOf
-returns c = sym (cond-no _ _ _ (failed (c .before .type-pairs .ensures) (c .if1 .taken)))
+returns c = sym (cond-no _ _ _ (test-failed (c .before .type-pairs .ensures) (c .if1 .taken)))
 
 image-fits-requires : tie.Need-image-fits-requires
 image-fits-requires c κs = search needs
@@ -55,7 +55,7 @@ unfolding packOf
 returns-2 c =
     sym
     (cond-yes _ _ _ (pairs-passed (c .before .before))
-    ∙ cond-no _ _ _ (failed (c .before .image-fits .ensures) (c .if2 .taken)))
+    ∙ cond-no _ _ _ (test-failed (c .before .image-fits .ensures) (c .if2 .taken)))
 
 wide-requires : tie.Need-wide-requires
 wide-requires c κs = search needs
@@ -78,7 +78,7 @@ returns-4 c =
     (cond-yes _ _ _ (pairs-passed (c .before .before .before .before .before .before))
     ∙ cond-yes _ _ _ (fits-passed (c .before .before .before .before))
     ∙ cond-yes _ _ _ (start-passed (c .before .before))
-    ∙ cond-no _ _ _ (failed (c .before .texts-fit .ensures) (c .if4 .taken)))
+    ∙ cond-no _ _ _ (test-failed (c .before .texts-fit .ensures) (c .if4 .taken)))
 
 add-size : tie.Need-add-size
 add-size c = search needs

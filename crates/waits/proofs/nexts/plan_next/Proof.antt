@@ -1,7 +1,7 @@
 -- `plan_next`: 8, else the first stage.
 use borrow.Author.Needs.{needs}
 use mathlib.Core.Path.{sym, ap, _∙_}
-use Rattle.octets.specs.Choice.{passed, failed}
+use Rattle.octets.specs.Choice.{test-passed, test-failed}
 use Rattle.host_model.specs.Waits.{wait}
 use Rattle.host_model.specs.NextsLaws.{plan-begins, plan-refused}
 use Rattle.host_model.specs.declared.nexts.Next.the-variants.{Sends}
@@ -14,7 +14,7 @@ loadable-requires c κs = search needs
 returns : tie.Need-returns
 returns c =
     let a = c .before .before .args in
-    sym (plan-refused (a .plan) (a .image) (failed (c .before .loadable .ensures) (c .if1 .taken)))
+    sym (plan-refused (a .plan) (a .image) (test-failed (c .before .loadable .ensures) (c .if1 .taken)))
 
 first-stage-requires : tie.Need-first-stage-requires
 first-stage-requires c κs = search needs
@@ -26,7 +26,7 @@ returns-2 : tie.Need-returns-2
 returns-2 c =
     let a = c .before .before .before .before .args in
     ap Sends (c .waiting .ensures ∙ ap (λ stage. wait (a .plan) stage 0 0) (c .before .first-stage .ensures))
-    ∙ sym (plan-begins (a .plan) (a .image) (passed (c .before .before .before .loadable .ensures) (c .before .before .if1 .left)))
+    ∙ sym (plan-begins (a .plan) (a .image) (test-passed (c .before .before .before .loadable .ensures) (c .before .before .if1 .left)))
 
 pub plan-next-spec : {M : Type 1} → statement M
 plan-next-spec =

@@ -2,7 +2,7 @@
 use mathlib.Core.Path.{sym, _∙_}
 use mathlib.Core.Bool.{false≢true}
 use native.Mathlib.Omega.{arith}
-use Rattle.octets.specs.Choice.{passed, failed}
+use Rattle.octets.specs.Choice.{test-passed, test-failed}
 use Rattle.host_model.specs.WaitsLaws.{wait-no, wait-stage}
 use borrow.Author.Needs.{needs}
 use Rattle.waits.proofs.waits.wait_fits.Statement.{statement}
@@ -15,7 +15,7 @@ returns : tie.Need-returns
 returns c =
     let a = c .before .before .before .args in
     sym
-    (wait-no (a .image) (a .wait) (λ f. false≢true (sym (failed (c .before .loadable .ensures) (c .if1 .taken)) ∙ f .fitting)))
+    (wait-no (a .image) (a .wait) (λ f. false≢true (sym (test-failed (c .before .loadable .ensures) (c .if1 .taken)) ∙ f .fitting)))
 
 limit-requires : tie.Need-limit-requires
 limit-requires c κs = search needs
@@ -41,7 +41,7 @@ returns-4 c =
     let a = limited .before .before .before .before .args in
     c .stage-fits .ensures
     ∙ sym
-    (wait-stage (a .image) (a .wait) (passed (limited .before .before .loadable .ensures) (limited .before .if1 .left))
+    (wait-stage (a .image) (a .wait) (test-passed (limited .before .before .loadable .ensures) (limited .before .if1 .left))
     (omega (arith, limited .limit .ensures))
     (omega arith))
 

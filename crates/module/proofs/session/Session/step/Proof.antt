@@ -2,7 +2,7 @@
 use borrow.Author.Needs.{needs}
 use mathlib.Core.Bool.{true}
 use mathlib.Core.Path.{_≡_, sym, ap, _∙_}
-use Rattle.octets.specs.Choice.{passed, failed}
+use Rattle.octets.specs.Choice.{test-passed, test-failed}
 use Rattle.module.specs.Session.{takes}
 use Rattle.module.specs.Step.{left}
 use Rattle.module.specs.StepLaws.{step-no-room, step-wrong-length, step-closed, step-frame, step-time}
@@ -11,7 +11,7 @@ use Rattle.module.proofs.session.Session.step.Tie as tie
 
 -- Behind the third test the session is open.
 opened : (c : tie.Else3) → takes (c .before .before .before .before .before .before .before .before .args .self) ≡ true
-opened c = passed (c .before .is-open .ensures) (c .if3 .left)
+opened c = test-passed (c .before .is-open .ensures) (c .if3 .left)
 
 answers-requires : tie.Need-answers-requires
 answers-requires c κs = search needs
@@ -43,7 +43,7 @@ returns-3 c =
     let a = c .before .before .before .before .before .before .before .before .before .args in
     let room = c .before .before .before .before .before .if1 .left in
     let same = c .before .before .before .if2 .left in
-    let closed = failed (c .before .before .is-open .ensures) (c .before .if3 .taken) in
+    let closed = test-failed (c .before .before .is-open .ensures) (c .before .if3 .taken) in
     ap (λ x. left x (a .flash .now) (a .reply .now)) (c .answers3 .ensures)
     ∙ sym (step-closed (a .self) (a .event) (a .payload .now) (a .flash .now) (a .reply .now) room same closed)
 

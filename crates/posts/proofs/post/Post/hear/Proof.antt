@@ -1,7 +1,7 @@
 -- `Post::hear`: the board's step in an open session, else the text.
 use borrow.Author.Needs.{needs}
 use mathlib.Core.Path.{sym, ap, _∙_}
-use Rattle.octets.specs.Choice.{cond-yes, cond-no, passed, failed}
+use Rattle.octets.specs.Choice.{cond-yes, cond-no, test-passed, test-failed}
 use Rattle.posts.specs.Post.{wentOf, listens, postHears}
 use Rattle.posts.proofs.post.Post.hear.Statement.{statement}
 use Rattle.posts.proofs.post.Post.hear.Tie as tie
@@ -30,7 +30,7 @@ returns c =
     let a = c .before .before .before .before .before .before .before .before .before .before .before .args in
     c .before .before .listens .ensures
     ∙ ap (λ seen. listens (a .self) seen (a .flash .now) (a .reply .now)) (c .before .before .before .before .before .follow .ensures)
-    ∙ sym (cond-no _ _ _ (failed (c .before .before .before .before .before .before .before .before .is-open .ensures) (c .before .before .before .before .before .before .before .if1 .taken)))
+    ∙ sym (cond-no _ _ _ (test-failed (c .before .before .before .before .before .before .before .before .is-open .ensures) (c .before .before .before .before .before .before .before .if1 .taken)))
 
 hear-requires : tie.Need-hear-requires
 hear-requires c κs = search needs
@@ -49,7 +49,7 @@ unfolding postHears
 returns-2 c =
     rw (c .more .ensures)
     (ap (wentOf (c .before .before .before .before .before .before .before .before .before .before .before .before .before .before .args .self)) (c .before .before .before .before .before .before .hear .ensures)
-    ∙ sym (cond-yes _ _ _ (passed (c .before .before .before .before .before .before .before .before .before .before .before .is-open .ensures) (c .before .before .before .before .before .before .before .before .before .before .if1 .left))))
+    ∙ sym (cond-yes _ _ _ (test-passed (c .before .before .before .before .before .before .before .before .before .before .before .is-open .ensures) (c .before .before .before .before .before .before .before .before .before .before .if1 .left))))
 
 pub hear-spec : {M : Type 1} → statement M
 hear-spec =

@@ -1,7 +1,7 @@
 -- `Post::wait`: the board's step in an open session, else nothing.
 use borrow.Author.Needs.{needs}
 use mathlib.Core.Path.{sym, ap, _∙_}
-use Rattle.octets.specs.Choice.{cond-yes, cond-no, passed, failed}
+use Rattle.octets.specs.Choice.{cond-yes, cond-no, test-passed, test-failed}
 use Rattle.posts.specs.Post.{wentOf, postLeft, postWaits}
 use Rattle.posts.proofs.post.Post.wait.Statement.{statement}
 use Rattle.posts.proofs.post.Post.wait.Tie as tie
@@ -17,7 +17,7 @@ unfolding postWaits
 returns c =
     let a = c .before .before .before .before .before .args in
     ap (λ x. postLeft x (a .flash .now) (a .reply .now)) (c .says .ensures)
-    ∙ sym (cond-no _ _ _ (failed (c .before .before .is-open .ensures) (c .before .if1 .taken)))
+    ∙ sym (cond-no _ _ _ (test-failed (c .before .before .is-open .ensures) (c .before .if1 .taken)))
 
 wait-requires : tie.Need-wait-requires
 wait-requires c κs = search needs
@@ -36,7 +36,7 @@ unfolding postWaits
 returns-2 c =
     rw (c .more .ensures)
     (ap (wentOf (c .before .before .before .before .before .before .before .before .before .before .before .before .before .before .args .self)) (c .before .before .before .before .before .before .wait .ensures)
-    ∙ sym (cond-yes _ _ _ (passed (c .before .before .before .before .before .before .before .before .before .before .before .is-open .ensures) (c .before .before .before .before .before .before .before .before .before .before .if1 .left))))
+    ∙ sym (cond-yes _ _ _ (test-passed (c .before .before .before .before .before .before .before .before .before .before .before .is-open .ensures) (c .before .before .before .before .before .before .before .before .before .before .if1 .left))))
 
 pub wait-spec : {M : Type 1} → statement M
 wait-spec =
