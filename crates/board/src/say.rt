@@ -11,8 +11,8 @@ fn say(words: &[u8]) {
     voice::say(STDERR_FILENO, words);
 }
 
-pub fn beginning(opened: bool, length: usize) {
-    voice::tell(STDERR_FILENO, b"board: flash of \0 bytes, ", &[length]);
+pub fn beginning(opened: bool, extent: usize) {
+    voice::tell(STDERR_FILENO, b"board: flash of \0 bytes, ", &[extent]);
     if opened {
         say(b"session open\n");
     } else {
@@ -30,7 +30,7 @@ pub fn change(before: View, after: View, idle: bool) {
     match stand {
         0 => closed(idle),
         1 => say(b"board: session open\n"),
-        2 => parameters(kind, after.length),
+        2 => parameters(kind, after.extent),
         4 => say(b"board: done, all packets are in the flash\n"),
         _ => (),
     }
@@ -58,10 +58,10 @@ pub fn refusal(number: u8) {
     say(b"\n");
 }
 
-fn parameters(kind: Kind, length: usize) {
+fn parameters(kind: Kind, extent: usize) {
     say(b"board: parameters accepted: ");
     voice::kind(STDERR_FILENO, kind);
-    voice::tell(STDERR_FILENO, b", length \0\n", &[length]);
+    voice::tell(STDERR_FILENO, b", length \0\n", &[extent]);
 }
 
 // Reads a reply back, and says where it refuses something; answers whether it does. A text is no frame and refuses nothing.

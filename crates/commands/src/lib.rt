@@ -41,12 +41,12 @@ pub fn write_rate(rate: u8, out: &mut [u8]) -> Written
 }
 
 // Writes 0x02: type, length and token of an image.
-pub fn write_parameters(kind: Kind, length: usize, out: &mut [u8]) -> Written
-    ensures { λ r. ⌜ record { answer = r; output = now (out .exit) } ≡ writeOf (parametersFrame kind length) (now (out .entry)) ⌝ }
+pub fn write_parameters(kind: Kind, extent: usize, out: &mut [u8]) -> Written
+    ensures { λ r. ⌜ record { answer = r; output = now (out .exit) } ≡ writeOf (parametersFrame kind extent) (now (out .entry)) ⌝ }
 {
     let mut payload = [0u8; 10];
     octets::put_two(&mut payload, 0, kinds::number_of(kind));
-    octets::put_four(&mut payload, 2, (length % 4294967296) as u32);
+    octets::put_four(&mut payload, 2, (extent % 4294967296) as u32);
     octets::put_four(&mut payload, 6, kinds::token_of(kind));
     wire::write(PARAMETERS, &payload, out)
 }

@@ -22,7 +22,7 @@ struct Playing {
     session: Session,
     at: usize,
     place: usize,
-    length: usize,
+    extent: usize,
     room: usize,
 }
 
@@ -52,7 +52,7 @@ fn begun() -> Playing {
         session: session,
         at: 0,
         place: 0,
-        length: 0,
+        extent: 0,
         room: 0,
     }
 }
@@ -82,7 +82,7 @@ fn on(playing: Playing, size: usize) -> Playing {
 fn lent(playing: Playing, bytes: &[u8]) -> Playing {
     let mut next = playing;
     next.place = octets::four_at(bytes, 0) as usize;
-    next.length = octets::four_at(bytes, 4) as usize;
+    next.extent = octets::four_at(bytes, 4) as usize;
     next.room = octets::byte_at(bytes, 8) as usize;
     next
 }
@@ -93,7 +93,7 @@ fn played(playing: Playing, letter: u8, bytes: &[u8], words: &[u8], images: &[u8
     if n > 64 {
         return playing;
     }
-    let image = octets::part(images, playing.place, playing.length);
+    let image = octets::part(images, playing.place, playing.extent);
     let session = playing.session;
     let mut out = [0u8; 64];
     let mut next = playing;

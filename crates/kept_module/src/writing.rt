@@ -74,12 +74,12 @@ fn row(
     idle: u32,
     phase: u32,
     kind: u32,
-    length: usize,
+    extent: usize,
     size: usize,
     number: usize,
     written: usize,
 ) -> [u32; record::RECORD_WORDS]
-    ensures { λ r. ⌜ r ≡ rowOf flash idle phase kind length size number written ⌝ }
+    ensures { λ r. ⌜ r ≡ rowOf flash idle phase kind extent size number written ⌝ }
 {
     [
         flat::low(flash),
@@ -87,7 +87,7 @@ fn row(
         idle,
         phase,
         kind,
-        flat::low(length),
+        flat::low(extent),
         flat::low(size),
         flat::low(number),
         flat::low(written),

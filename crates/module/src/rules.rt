@@ -132,8 +132,8 @@ fn parameters_of(phase: Phase, kind: Kind, payload: &[u8], flash: usize) -> Deci
             },
         );
     }
-    let length = wide32(octets::four_at(payload, LENGTH_AT));
-    if !kinds::fits_flash(kind, length, flash) {
+    let extent = wide32(octets::four_at(payload, LENGTH_AT));
+    if !kinds::fits_flash(kind, extent, flash) {
         return unmoved_say(
             phase,
             Say::Parameters {
@@ -144,7 +144,7 @@ fn parameters_of(phase: Phase, kind: Kind, payload: &[u8], flash: usize) -> Deci
     unmoved_say(
         Phase::Begun(Transfer {
             kind: kind,
-            extent: length,
+            extent: extent,
         }),
         Say::Parameters {
             ack: commands::ACCEPTED,
@@ -207,8 +207,8 @@ fn numbers_in(payload: &[u8]) -> Numbers
 }
 
 // The payload is 6 + PkSize, and PkSize is 1 to 1,024.
-fn well_formed(length: usize, size: usize) -> bool
-    ensures { λ r. ⌜ r ≡ wellFormed length size ⌝ }
+fn well_formed(extent: usize, size: usize) -> bool
+    ensures { λ r. ⌜ r ≡ wellFormed extent size ⌝ }
 {
     if size < 1 {
         return false;
@@ -216,7 +216,7 @@ fn well_formed(length: usize, size: usize) -> bool
     if LARGEST_PACKET < size {
         return false;
     }
-    length == PACKET_HEAD + size
+    extent == PACKET_HEAD + size
 }
 
 fn packet_at(phase: Phase, given: Numbers, bytes: &[u8], flash: &[u8]) -> Decision
@@ -255,13 +255,13 @@ fn first(transfer: Transfer, given: Numbers) -> Decision
 }
 
 // With Total 1 the size must be the length, else Total must be length / size rounded up.
-fn cuts_into(length: usize, total: usize, size: usize) -> bool
-    ensures { λ r. ⌜ r ≡ cutsInto length total size ⌝ }
+fn cuts_into(extent: usize, total: usize, size: usize) -> bool
+    ensures { λ r. ⌜ r ≡ cutsInto extent total size ⌝ }
 {
     if total == 1 {
-        return size == length;
+        return size == extent;
     }
-    total == pieces::count(length, size)
+    total == pieces::count(extent, size)
 }
 
 // While loading the next packet is taken, and a repeat of the one just accepted acknowledged.

@@ -38,11 +38,11 @@ impl Session {
     pub fn opening(flash: &[u8]) -> Stepped
         ensures { λ r. ⌜ r ≡ openingOf (now (flash .entry)) ⌝ }
     {
-        let length = flash.len();
-        if can_open(length) {
+        let extent = flash.len();
+        if can_open(extent) {
             return Stepped {
                 session: Session {
-                    flash: length,
+                    flash: extent,
                     idle: 0,
                     phase: Phase::Ready,
                 },
@@ -51,7 +51,7 @@ impl Session {
         }
         Stepped {
             session: Session {
-                flash: length,
+                flash: extent,
                 idle: 0,
                 phase: Phase::Closed,
             },
@@ -145,13 +145,13 @@ impl Session {
 }
 
 // Whether a flash of this length can be opened.
-fn can_open(length: usize) -> bool
-    ensures { λ r. ⌜ r ≡ openable length ⌝ }
+fn can_open(extent: usize) -> bool
+    ensures { λ r. ⌜ r ≡ openable extent ⌝ }
 {
-    if length < 1 {
+    if extent < 1 {
         return false;
     }
-    length <= LARGEST_FLASH
+    extent <= LARGEST_FLASH
 }
 
 // Whether an open session has such a flash and such an idle sum.

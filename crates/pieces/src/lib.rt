@@ -4,30 +4,30 @@ ghost use Prim.Native.Nat.{_-_};
 ghost use Rattle.pieces.specs.Pieces.{countOf, sizeAt, pieceOf};
 
 // How many pieces of a size an image of a length is cut into; none where the size is 0.
-pub fn count(length: usize, size: usize) -> usize
-    ensures { λ r. ⌜ r ≡ countOf length size ⌝ }
+pub fn count(extent: usize, size: usize) -> usize
+    ensures { λ r. ⌜ r ≡ countOf extent size ⌝ }
 {
     if size == 0 {
         return 0;
     }
-    if length == 0 {
+    if extent == 0 {
         return 0;
     }
-    (length - 1) / size + 1
+    (extent - 1) / size + 1
 }
 
 // How long a piece is, by its number.
-pub fn size_at(length: usize, size: usize, number: usize) -> usize
-    ensures { λ r. ⌜ r ≡ sizeAt length size number ⌝ }
+pub fn size_at(extent: usize, size: usize, number: usize) -> usize
+    ensures { λ r. ⌜ r ≡ sizeAt extent size number ⌝ }
 {
-    let total = count(length, size);
+    let total = count(extent, size);
     if number != total {
         return size;
     }
     if total == 0 {
-        return length;
+        return extent;
     }
-    length - (total - 1) * size
+    extent - (total - 1) * size
 }
 
 // A piece of an image by its number, as a part of the image; empty behind the last one.

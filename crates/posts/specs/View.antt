@@ -18,11 +18,11 @@ use Rattle.posts.specs.declared.ending.Ending.{Ending}
 
 -- No transfer: only how far the session is.
 abbrev pub bareOf : ℕ → View
-bareOf stand = record { stand = stand; kind = Navigation; base = 0; length = 0; written = 0 }
+bareOf stand = record { stand = stand; kind = Navigation; base = 0; extent = 0; written = 0 }
 
 -- A transfer: where its range begins, how long it is, how much of it is written.
 abbrev pub seenOf : ℕ → Transfer → ℕ → View
-seenOf stand t written = record { stand = stand; kind = t .kind; base = baseOf (t .kind); length = t .extent; written = written }
+seenOf stand t written = record { stand = stand; kind = t .kind; base = baseOf (t .kind); extent = t .extent; written = written }
 
 abbrev pub cutOf : ℕ → Pieces → ℕ → View
 cutOf stand p written = seenOf stand (p .transfer) written

@@ -13,7 +13,7 @@ pub struct View {
     pub stand: u8,
     pub kind: Kind,
     pub base: usize,
-    pub length: usize,
+    pub extent: usize,
     pub written: usize,
 }
 
@@ -52,7 +52,7 @@ fn bare(stand: u8) -> View
         stand: stand,
         kind: Kind::Navigation,
         base: 0,
-        length: 0,
+        extent: 0,
         written: 0,
     }
 }
@@ -72,7 +72,7 @@ fn seen(stand: u8, transfer: Transfer, written: usize) -> View
         stand: stand,
         kind: kind,
         base: kinds::base_of(kind) as usize,
-        length: transfer.extent,
+        extent: transfer.extent,
         written: written,
     }
 }

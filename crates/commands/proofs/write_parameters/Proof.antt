@@ -56,9 +56,9 @@ returns c =
     let a = first .before .before .before .before .args in
     let zeros : List ℕ = replicate 10 0 in
     let type = first .put-two .ensures ∙ ap (λ x. laid zeros 0 (spelled 2 x)) (first .before .number-of .ensures) in
-    let long = second .put-four .ensures ∙ ap (λ l. laid l 2 (spelled 4 (a .length % 4294967296))) type in
+    let long = second .put-four .ensures ∙ ap (λ l. laid l 2 (spelled 4 (a .extent % 4294967296))) type in
     let token = third .put-four2 .ensures ∙ ap₂ (λ l x. laid l 6 (spelled 4 x)) long (third .before .token-of .ensures) in
-    let built = token ∙ parameters-built (a .kind) (a .length) zeros (length-replicate {A = ℕ} 10 0) in
+    let built = token ∙ parameters-built (a .kind) (a .extent) zeros (length-replicate {A = ℕ} 10 0) in
     c .before .before .write .ensures
     ∙ ap (λ p. writeOf (frame parametersCommand p) (a .out .now)) built
 

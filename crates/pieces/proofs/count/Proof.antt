@@ -9,7 +9,7 @@ use Rattle.pieces.proofs.count.Statement.{statement}
 use Rattle.pieces.proofs.count.Tie as tie
 
 returns : tie.Need-returns
-returns c = rw (c .if1 .taken) (sym (count-size-0 (c .before .args .length)))
+returns c = rw (c .if1 .taken) (sym (count-size-0 (c .before .args .extent)))
 
 returns-2 : tie.Need-returns-2
 returns-2 c = rw (c .if2 .taken) (sym (count-none (c .before .before .args .size)))
@@ -22,12 +22,12 @@ div-result c = search needs
 
 add-result : tie.Need-add-result
 add-result c =
-    let n = c .before .before .args .length in
+    let n = c .before .before .args .extent in
     omega (arith, div-le-self (n - 1) (c .before .before .args .size))
 
 returns-3 : tie.Need-returns-3
 returns-3 c =
-    let n = c .before .before .args .length in
+    let n = c .before .before .args .extent in
     sym (count-step n (c .before .before .args .size) (omega arith) (omega arith))
 
 pub count-spec : {M : Type 1} → statement M

@@ -7,11 +7,11 @@ use Rattle.module.proofs.session.can_open.Tie as tie
 
 returns : tie.Need-returns
 unfolding openable
-returns c = let n = c .before .args .length in rw (lt-leb 1 n (omega arith))
+returns c = let n = c .before .args .extent in rw (lt-leb 1 n (omega arith))
 
 returns-2 : tie.Need-returns-2
 unfolding openable
-returns-2 c = let n = c .before .args .length in rw (le-leb 1 n (omega arith))
+returns-2 c = let n = c .before .args .extent in rw (le-leb 1 n (omega arith))
 
 pub can-open-spec : {M : Type 1} → statement M
 can-open-spec = tie.close (tie.spec returns returns-2)
