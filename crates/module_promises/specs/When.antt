@@ -1,5 +1,5 @@
 -- M1, the other way: the expected packet is acknowledged, and a repeat of the one just accepted; with the last comes the notice.
-use Prim.Native.Nat.{ℕ, _+_, _-_, _≤_, _<_}
+use Prim.Native.Nat.{ℕ, _+_, _≤_, _<_}
 use mathlib.Core.Bool.{true, false, false≢true}
 use mathlib.Core.List.{List, [], _∷_, _++_, List·Memᴰ, List·Memᴰ·head, Memᴰ·append-right}
 use mathlib.Core.Path.{_≡_, refl, sym, ap, _∙_}
@@ -11,8 +11,8 @@ use Rattle.octets.specs.Lists.{bytes-take}
 use Rattle.octets.specs.PartLaws.{number-short}
 use Rattle.kinds.specs.Kinds.{baseOf}
 use Rattle.kinds.specs.KindsLaws.{FitsFlash, fits-flash}
-use Rattle.pieces.specs.Pieces.{countOf, offsetOf, sizeAt}
-use Rattle.pieces.specs.PiecesLaws.{within, ends-with, size-first}
+use Rattle.pieces.specs.Pieces.{countOf, sizeAt}
+use Rattle.pieces.specs.PiecesLaws.{within, size-first}
 use Rattle.commands.specs.Commands.{largestTotal, packetCommand, accepted, packetReply, notice}
 use Rattle.module_model.specs.Phases.{totalOf, held}
 use Rattle.module_model.specs.PhasesLaws.{Cut, cut-length, loading-facts, done-facts}
@@ -30,7 +30,7 @@ use Rattle.module_promises.specs.Steps.{Case, refuses, sleeps, waits, he
 use Rattle.module_promises.specs.Flash.{base-is}
 use Rattle.module_promises.specs.Success.{last-notices}
 use Rattle.module_promises.specs.Track.{Track, Pieced, Tracked, reached-tracked}
-use Rattle.module_promises.specs.Promises.{Opening, openedBy, LastParameters, Acknowledged, LastPacket, baseIn, lengthIn, Expected}
+use Rattle.module_promises.specs.Promises.{Opening, openedBy, LastParameters, Acknowledged, baseIn, lengthIn, Expected}
 use Rattle.module_promises.specs.Promises.{PacketFrame, ExpectedSucceeds, RepeatSucceeds}
 use Rattle.module_model.specs.declared.phases.Transfer.{Transfer}
 use Rattle.module_model.specs.declared.phases.Pieces.{Pieces}
