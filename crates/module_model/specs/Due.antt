@@ -1,6 +1,6 @@
 -- What is decided where the facts for it hold: parameters that fit are accepted, the packet that is due is taken.
 use Prim.Native.Nat.{ℕ, zero, suc, _+_, _*_, _-_, _^_, _≤_, _<_}
-use mathlib.Core.Bool.{true, cond}
+use mathlib.Core.Bool.{true, false, cond}
 use mathlib.Core.List.{List}
 use mathlib.Core.Path.{_≡_, refl, sym, ap, _∙_}
 use native.Mathlib.Nat.{zero-mul}
@@ -21,11 +21,11 @@ use Rattle.module_model.specs.Phases.{totalOf, held}
 use Rattle.module_model.specs.PhasesLaws.{Cut, cut-length, facts-loading}
 use Rattle.module_model.specs.Rules.{unmoved, taken, dataIn, kindDecision, parametersDecision, numbersIn, phaseAt}
 use Rattle.module_model.specs.Rules.{packetHead, parametersLength, typeField, lengthField, addressField}
-use Rattle.module_model.specs.Rules.{placeOf, isRepeat, acknowledgeOf}
+use Rattle.module_model.specs.Rules.{placeOf, isPacket, isRepeat, acknowledgeOf, repeatDecision}
 use Rattle.module_model.specs.Rules.{firstDecision, loadingDecision, phaseDecision, packetDecision, decideOf}
 use Rattle.module_model.specs.RulesLaws.{formed-yes, cut-yes, PacketOf, packet-yes, first-taken, next-taken, decide-packet}
-use Rattle.module_model.specs.RulesLaws.{packet-formed, repeat-yes, repeat-taken, done-repeat}
-use Rattle.module_model.specs.Outcomes.{Belongs, Expects, first, later, formed-data}
+use Rattle.module_model.specs.RulesLaws.{packet-formed, packet-no, repeat-yes, repeat-taken, next-other, done-repeat}
+use Rattle.module_model.specs.Outcomes.{Belongs, Expects, first, later, Accepted, loading, done, formed-data}
 use Rattle.module_model.specs.declared.phases.Transfer.{Transfer}
 use Rattle.module_model.specs.declared.phases.Pieces.{Pieces}
 use Rattle.module_model.specs.declared.phases.Phase.{Phase}
@@ -33,6 +33,7 @@ use Rattle.module_model.specs.declared.phases.Phase.the-variants.{Begun,
 use Rattle.module_model.specs.declared.rules.Say.the-variants as say
 use Rattle.module_model.specs.declared.rules.Numbers.{Numbers}
 use Rattle.module_model.specs.declared.rules.Put.{Put}
+use Rattle.module_model.specs.declared.rules.Put.the-variants.{Nowhere}
 use Rattle.module_model.specs.declared.rules.Decision.{Decision}
 
 -- ---- parameters
@@ -276,23 +277,45 @@ expected-confirmed phase p number payload flash n (later before written e next) 
       is = decided ∙ next-taken p before written (numbersIn payload) (dataIn payload) flash (packet-yes p (before + 1) (numbersIn payload) packet);
     })
 
--- and so is the repeat of the last one, if its bytes are those in the flash.
-pub repeat-confirmed : (p : Pieces) (written : ℕ) (payload flash : List ℕ) (n : ℕ) → Belongs p (totalOf p) payload n
-    → dataIn payload ≡ partOf flash (placeOf p (totalOf p)) (length (dataIn payload))
-    → Confirms (decideOf (Done p written) packetCommand payload flash) (totalOf p)
-repeat-confirmed p written payload flash n k same =
-    let given = numbersIn payload in
-    let bytes = dataIn payload in
-    let again : isRepeat p (totalOf p) given bytes flash ≡ true =
-    repeat-yes p (totalOf p) given bytes flash (record {
-      packet = belongs-packet p (totalOf p) payload n k;
-      same = same ∙ ap (partOf flash (placeOf p (totalOf p))) (sym (k .form .size-is));
-    }) in
-    record {
-      phase = _;
-      put = _;
-      is =
-          belongs-decided (Done p written) p (totalOf p) payload flash n k
-          ∙ done-repeat p written given bytes flash
-          ∙ repeat-taken (Done p written) p (totalOf p) given bytes flash again;
-    }
+-- and so is a repeat of the one just accepted, if its bytes are those in the flash.
+pub repeat-confirmed : (phase : Phase) (p : Pieces) (number : ℕ) (payload flash : List ℕ) (n : ℕ) → Accepted phase p number
+    → Belongs p number payload n → dataIn payload ≡ partOf flash (placeOf p number) (length (dataIn payload))
+    → Confirms (decideOf phase packetCommand payload flash) number
+repeat-confirmed phase p number payload flash n accepted-now k same = go accepted-now
+  where
+    given : Numbers
+    given = numbersIn payload
+
+    again : isRepeat p number given (dataIn payload) flash ≡ true
+    again =
+        repeat-yes p number given (dataIn payload) flash (record {
+          packet = belongs-packet p number payload n k;
+          same = same ∙ ap (partOf flash (placeOf p number)) (sym (k .form .size-is));
+        })
+
+    go : Accepted phase p number → Confirms (decideOf phase packetCommand payload flash) number
+    go (loading written e before) =
+        let now = Loading p number written in
+        let other : isPacket p (number + 1) given ≡ false =
+        packet-no p (number + 1) given (λ f. omega (arith, f .this, belongs-packet p number payload n k .this)) in
+        record {
+          phase = now;
+          put = Nowhere;
+          is =
+              ap (λ (x : Phase). decideOf x packetCommand payload flash) e
+              ∙ belongs-decided now p number payload flash n k
+              ∙ next-other p number written given (dataIn payload) flash other
+              ∙ repeat-taken now p number given (dataIn payload) flash again;
+        }
+    go (done e last) =
+        let now = Done p (p .transfer .extent) in
+        record {
+          phase = now;
+          put = Nowhere;
+          is =
+              ap (λ (x : Phase). decideOf x packetCommand payload flash) e
+              ∙ belongs-decided now p number payload flash n k
+              ∙ done-repeat p (p .transfer .extent) given (dataIn payload) flash
+              ∙ ap (λ (m : ℕ). repeatDecision now p m given (dataIn payload) flash) (sym last)
+              ∙ repeat-taken now p number given (dataIn payload) flash again;
+        }

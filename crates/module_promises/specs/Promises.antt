@@ -12,7 +12,7 @@ use Rattle.kinds.specs.KindsLaws.{FitsFlash}
 use Rattle.kinds.specs.declared.Kind.{Kind}
 use Rattle.kinds.specs.declared.Known.{Known}
 use Rattle.kinds.specs.declared.Known.the-variants.{Is, Unknown}
-use Rattle.pieces.specs.Pieces.{countOf, sizeAt}
+use Rattle.pieces.specs.Pieces.{countOf, offsetOf, sizeAt}
 use Rattle.commands.specs.Commands.{parametersFor, packetFor, largestPacket, largestTotal, parametersCommand, packetCommand}
 use Rattle.commands.specs.Commands.{restartCommand, accepted, parametersReply, packetReply, restartReply, notice}
 use Rattle.module_model.specs.Phases.{longestIdle, closingIdle, isClosed}
@@ -148,29 +148,34 @@ ExpectedSucceedsOf step =
 abbrev pub ExpectedSucceeds : Type 0
 ExpectedSucceeds = ExpectedSucceedsOf stepOf
 
--- The repeat of the last packet: a 0x05 frame with the payload of one that was acknowledged as the last since the parameters, whose data
--- still stand in the lent flash, at the end of the declared range.
-pub record RepeatsLast (history : List Exchange) (g : Given) (total : ℕ) : Type 0 where
+-- A repeat of packet k, the one just accepted, read off frames and replies:
+pub record Repeats (history : List Exchange) (g : Given) (s k : ℕ) : Type 0 where
   pub parameters : Exchange
   pub since : List Exchange
   pub last : LastParameters history parameters since
+  -- since the last accepted parameters packet k has been acknowledged and no later one up to Total; packet 1 set the size s;
+  pub some : 1 ≤ k
   pub former : Exchange
   pub there : List·Memᴰ former since
-  pub acknowledged : LastPacket former total
+  pub acknowledged : Says former (packetReply k accepted)
+  pub no-later : (i : ℕ) → k < i → i ≤ numberAt 2 (payloadOf g) 0 → Acknowledged i since → ⊥
+  pub size-set : (x : Exchange) → List·Memᴰ x since → Says x (packetReply 1 accepted) → length (dataIn (payloadOf (x .given))) ≡ s
+  -- a 0x05 frame has the same payload, with this number, and its data still stand in the lent flash, at base + (k - 1) * s.
   pub count : ℕ
   pub packet : g .event ≡ Frame packetCommand count
   pub same : payloadOf g ≡ payloadOf (former .given)
-  pub stands : let bytes = dataIn (payloadOf g) in
-      bytes ≡ partOf (g .flash) (baseIn parameters + lengthIn parameters - length bytes) (length bytes)
+  pub number-field : numberAt 2 (payloadOf g) 2 ≡ k
+  pub stands : let bytes = dataIn (payloadOf g) in bytes ≡ partOf (g .flash) (baseIn parameters + offsetOf s k) (length bytes)
 
--- M1, when (When.antt). Given to an open session and not refused, the repeat of the last packet brings acknowledgement and notice again.
+-- M1, when (When.antt). Given to an open session and not refused, a repeat is acknowledged again; that of the last packet brings the
+-- notice of State 0 again too.
 abbrev pub RepeatSucceedsOf : Step → Type 0
 RepeatSucceedsOf step =
     (o : Opening) (gs : List Given) (g : Given) → AllBytes gs → Bytes (g .payload)
     → let now = afterBy step (openedBy o) gs in
     let x = exchangeBy step now g in
-    (total : ℕ) → RepeatsLast (runBy step (openedBy o) gs) g total → takes now ≡ true → isRefused (x .left .answer) ≡ false
-    → Says x (packetReply total accepted) × Says x (notice 0)
+    (s k : ℕ) → Repeats (runBy step (openedBy o) gs) g s k → takes now ≡ true → isRefused (x .left .answer) ≡ false
+    → Says x (packetReply k accepted) × (numberAt 2 (payloadOf g) 0 ≡ k → Says x (notice 0))
 
 abbrev pub RepeatSucceeds : Type 0
 RepeatSucceeds = RepeatSucceedsOf stepOf

@@ -89,6 +89,10 @@ tiny-bytes = (bytes-spelled 10 (little (declares .payload)), bytes-spelled 10 (l
 abbrev pub flash8 : List ℕ
 flash8 = 9 ∷ 9 ∷ 9 ∷ 9 ∷ 9 ∷ 9 ∷ 9 ∷ 9 ∷ []
 
+-- The flash after packet 1.
+abbrev pub half : List ℕ
+half = 1 ∷ 2 ∷ 3 ∷ 4 ∷ 9 ∷ 9 ∷ 9 ∷ 9 ∷ []
+
 abbrev pub declares8 : Offer
 declares8 = record { event = Frame 2 10; payload = 2 ∷ 0 ∷ 8 ∷ 0 ∷ 0 ∷ 0 ∷ 0 ∷ 0 ∷ 0 ∷ 0 ∷ []; reply = zeros64 }
 

@@ -1,5 +1,5 @@
--- M1, the other way: the expected packet is acknowledged, and the repeat of the last one; with the last comes the notice of State 0.
-use Prim.Native.Nat.{ℕ, _+_, _-_, _≤_, _<_}
+-- M1, the other way: the expected packet is acknowledged, and a repeat of the one just accepted; with the last comes the notice.
+use Prim.Native.Nat.{ℕ, _+_, _≤_, _<_}
 use mathlib.Core.Bool.{true, false, false≢true}
 use mathlib.Core.List.{List, [], _∷_, _++_, List·Memᴰ, List·Memᴰ·head, Memᴰ·append-right}
 use mathlib.Core.Path.{_≡_, refl, sym, ap, _∙_}
@@ -11,13 +11,13 @@ use Rattle.octets.specs.Lists.{bytes-take}
 use Rattle.octets.specs.PartLaws.{number-short}
 use Rattle.kinds.specs.Kinds.{baseOf}
 use Rattle.kinds.specs.KindsLaws.{FitsFlash, fits-flash}
-use Rattle.pieces.specs.Pieces.{countOf, offsetOf, sizeAt}
-use Rattle.pieces.specs.PiecesLaws.{within, ends-with, size-first}
+use Rattle.pieces.specs.Pieces.{countOf, sizeAt}
+use Rattle.pieces.specs.PiecesLaws.{within, size-first}
 use Rattle.commands.specs.Commands.{largestTotal, packetCommand, accepted, packetReply, notice}
 use Rattle.module_model.specs.Phases.{totalOf, held}
-use Rattle.module_model.specs.PhasesLaws.{Cut, cut-length, loading-facts}
+use Rattle.module_model.specs.PhasesLaws.{Cut, cut-length, loading-facts, done-facts}
 use Rattle.module_model.specs.Rules.{packetHead, dataIn, numbersIn, placeOf, framesOf, decideOf}
-use Rattle.module_model.specs.Outcomes.{Belongs, Expects, first, later}
+use Rattle.module_model.specs.Outcomes.{Belongs, Expects, first, later, Accepted, loading, done}
 use Rattle.module_model.specs.Replies.{packet-said}
 use Rattle.module_model.specs.Due.{Confirms, expected-confirmed, repeat-confirmed}
 use Rattle.module_model.specs.Answers.{isRefused}
@@ -30,7 +30,7 @@ use Rattle.module_promises.specs.Steps.{Case, refuses, sleeps, waits, he
 use Rattle.module_promises.specs.Flash.{base-is}
 use Rattle.module_promises.specs.Success.{last-notices}
 use Rattle.module_promises.specs.Track.{Track, Pieced, Tracked, reached-tracked}
-use Rattle.module_promises.specs.Promises.{Opening, openedBy, LastParameters, Acknowledged, LastPacket, baseIn, lengthIn, Expected}
+use Rattle.module_promises.specs.Promises.{Opening, openedBy, LastParameters, Acknowledged, baseIn, lengthIn, Expected}
 use Rattle.module_promises.specs.Promises.{PacketFrame, ExpectedSucceeds, RepeatSucceeds}
 use Rattle.module_model.specs.declared.phases.Transfer.{Transfer}
 use Rattle.module_model.specs.declared.phases.Pieces.{Pieces}
@@ -153,13 +153,15 @@ module _ (history : List Exchange) (parameters : Exchange) (since : List Exchang
         → Belongs p k (payloadOf (x .given)) (length (x .given .flash))
     belongs-told x m k = h .belong x (rw (same-last (p .transfer) number (h .pieces) (h .track) .1) at m) k
 
-    size-told : (size k : ℕ) → Expected parameters since size k → p .size ≡ size
-    size-told size k e =
+    size-told : (size : ℕ)
+        → ((x : Exchange) → List·Memᴰ x since → Says x (packetReply 1 accepted) → length (dataIn (payloadOf (x .given))) ≡ size)
+        → p .size ≡ size
+    size-told size set =
         let a = acknowledged-all (p .transfer) number (h .pieces) (h .track) 1 (omega arith) (h .one) in
         let b = belongs-told (a .exchange) (a .there) 1 (omega arith) (omega arith) (a .says) in
         sym (size-first (p .transfer .extent) (p .size) (b .cut .some) (b .cut .within))
         ∙ sym (b .size-is)
-        ∙ e .size-set (a .exchange) (a .there) (a .says)
+        ∙ set (a .exchange) (a .there) (a .says)
 
 -- The expected packet given to an open session.
 module _ (o : Opening) (gs : List Given) (g : Given) (all : AllBytes gs) where
@@ -211,7 +213,7 @@ module _ (o : Opening) (gs : List Given) (g : Given) (all : AllBytes gs) where
     expected-says (Loading p number written) at h =
         let l = loading-facts p (length (g .flash)) number written (held-now (Loading p number written) at) in
         phase-says (Loading p number written) p at (length-told history parameters since last (p .transfer) number (h .pieces) (h .track))
-        (size-told history parameters since last p number h size k e) (l .fitting)
+        (size-told history parameters since last p number h size (e .size-set)) (l .fitting)
         (later number written refl (next (omega (arith, l .before, l .cut .total-most)) (decLe k number) (decLt (number + 1) k)))
       where
         next : number + 1 ≤ largestTotal → Dec (k ≤ number) → Dec (number + 1 < k) → k ≡ number + 1
@@ -228,7 +230,7 @@ module _ (o : Opening) (gs : List Given) (g : Given) (all : AllBytes gs) where
         let total = totalOf p in
         let most : k ≤ total =
         rw (
-          size-told history parameters since last p total h size k e,
+          size-told history parameters since last p total h size (e .size-set),
           ← length-told history parameters since last (p .transfer) total (h .pieces) (h .track),
         ) (e .most) in
         absurd (e .not-yet (acknowledged-all history parameters since last (p .transfer) total (h .pieces) (h .track) k (e .some) most))
@@ -255,10 +257,10 @@ expected-succeeds o gs g all bytes parameters since last size k e f t taken = (s
           acknowledged = says;
         })
 
--- ---- the repeat of the last packet
+-- ---- a repeat
 
 pub repeat-succeeds : RepeatSucceeds
-repeat-succeeds o gs g all bytes total r t taken = (says, notices)
+repeat-succeeds o gs g all bytes size k r t taken = (says, notices)
   where
     s : Session
     s = afterOf (openedBy o) gs
@@ -272,71 +274,68 @@ repeat-succeeds o gs g all bytes total r t taken = (says, notices)
     d : Decides s g
     d = decides s g (r .count) (r .packet) t taken
 
-    former : LastPacket (r .former) total
-    former = r .acknowledged
-
-    -- Its Total is two bytes.
-    total-is : numberAt 2 (payloadOf g) 0 ≡ total
-    total-is = ap (λ (l : List ℕ). numberAt 2 l 0) (r .same) ∙ former .total-field
-
-    short : total ≤ largestTotal
-    short = omega (arith, total-is, number-short 2 (payloadOf g) 0 (payload-bytes (g .event) (g .payload) bytes))
+    -- Its number is two bytes.
+    short : k ≤ largestTotal
+    short = omega (arith, r .number-field, number-short 2 (payloadOf g) 2 (payload-bytes (g .event) (g .payload) bytes))
 
     held-then : (phase : Phase) → s .phase ≡ phase → held phase (length (g .flash)) ≡ true
     held-then phase at = rw (d .size, ← at) (takes-facts s t .1)
 
-    -- The former packet was one of the transfer, so Total is.
-    former-belongs : (p : Pieces) (number : ℕ) → Pieced history p number
-        → Belongs p total (payloadOf (r .former .given)) (length (r .former .given .flash))
-    former-belongs p number h =
-        belongs-told history (r .parameters) (r .since) (r .last) p number h (r .former) (r .there) total (former .some) short
-        (former .acknowledged)
+    -- It is one of those accepted.
+    reached : (tr : Transfer) (number : ℕ) (pieces : List (List ℕ)) → Track history tr number pieces → k ≤ number
+    reached tr number pieces h =
+        acknowledged-most history (r .parameters) (r .since) (r .last) tr number pieces h k short
+        (record { exchange = r .former; there = r .there; says = r .acknowledged })
 
-    reached-most : (tr : Transfer) (number : ℕ) (pieces : List (List ℕ)) → Track history tr number pieces → total ≤ number
-    reached-most tr number pieces h =
-        acknowledged-most history (r .parameters) (r .since) (r .last) tr number pieces h total short
-        (record { exchange = r .former; there = r .there; says = former .acknowledged })
+    -- It belongs to the transfer, as the former did.
+    belongs-again : (p : Pieces) (number : ℕ) → Pieced history p number → Belongs p k (payloadOf g) (length (r .former .given .flash))
+    belongs-again p number h =
+        rw (r .same)
+        (belongs-told history (r .parameters) (r .since) (r .last) p number h (r .former) (r .there) k (r .some) short (r .acknowledged))
 
-    go : (phase : Phase) → s .phase ≡ phase → Tracked history phase → Says x (packetReply total accepted)
+    -- It is the last of them, as no later one has been acknowledged.
+    latest : (p : Pieces) (number : ℕ) → Pieced history p number → number ≤ totalOf p → k ≡ number
+    latest p number h most = go (decLt k number)
+      where
+        go : Dec (k < number) → k ≡ number
+        go (yes before) =
+            absurd (r .no-later number before (rw (belongs-again p number h .total-is) most)
+            (acknowledged-all history (r .parameters) (r .since) (r .last) (p .transfer) number (h .pieces) (h .track) number (h .one)
+            (omega arith)))
+        go (no same) = omega (arith, same, reached (p .transfer) number (h .pieces) (h .track))
+
+    -- So it is acknowledged where the phase has just accepted it.
+    phase-says : (phase : Phase) (p : Pieces) (number : ℕ) → s .phase ≡ phase → Pieced history p number → number ≤ totalOf p
+        → Accepted phase p number → Says x (packetReply k accepted)
+    phase-says phase p number at h most a =
+        let is = latest p number h most in
+        let again = belongs-again p number h in
+        let base = base-told history (r .parameters) (r .since) (r .last) (p .transfer) number (h .pieces) (h .track) in
+        let same : p .size ≡ size = size-told history (r .parameters) (r .since) (r .last) p number h size (r .size-set) in
+        let stands : dataIn (payloadOf g) ≡ partOf (g .flash) (placeOf p k) (length (dataIn (payloadOf g))) = rw (same, ← base) (r .stands) in
+        confirmed-heard s g phase k d at short (repeat-confirmed phase p k (payloadOf g) (g .flash) _ (rw is a) again stands)
+
+    go : (phase : Phase) → s .phase ≡ phase → Tracked history phase → Says x (packetReply k accepted)
     go Closed at h = absurd (false≢true (held-then Closed at))
     go Ready at h = absurd (h (r .parameters) (last-there history (r .parameters) (r .since) (r .last)) (r .last .accepts))
-    go (Begun tr) at h = absurd (omega (arith, former .some, reached-most tr 0 [] h))
+    go (Begun tr) at h = absurd (omega (arith, r .some, reached tr 0 [] h))
     go (Loading p number written) at h =
         let l = loading-facts p (length (g .flash)) number written (held-then (Loading p number written) at) in
-        let last : total ≡ totalOf p = sym (former .total-field) ∙ former-belongs p number h .total-is in
-        absurd (omega (arith, last, l .before, reached-most (p .transfer) number (h .pieces) (h .track)))
+        phase-says (Loading p number written) p number at h (omega (arith, l .before)) (loading written refl (l .before))
     go (Done p written) at h =
-        let k = former-belongs p (totalOf p) h in
-        let n = p .transfer .extent in
-        let last : total ≡ totalOf p = sym (former .total-field) ∙ k .total-is in
-        let again : Belongs p (totalOf p) (payloadOf g) (length (r .former .given .flash)) = rw (r .same) (rw last at k) in
-        let bytes-of = dataIn (payloadOf g) in
-        let ends : offsetOf (p .size) (totalOf p) + length bytes-of ≡ n =
-        ap (λ (i : ℕ). offsetOf (p .size) (totalOf p) + i) (again .size-is)
-        ∙ ends-with n (p .size) (cut-length p (again .cut)) (again .cut .some) in
-        let place : baseIn (r .parameters) + lengthIn (r .parameters) - length bytes-of ≡ placeOf p (totalOf p) =
-        omega (
-          arith,
-          ends,
-          base-told history (r .parameters) (r .since) (r .last) (p .transfer) (totalOf p) (h .pieces) (h .track),
-          length-told history (r .parameters) (r .since) (r .last) (p .transfer) (totalOf p) (h .pieces) (h .track),
-        ) in
-        let stands : bytes-of ≡ partOf (g .flash) (placeOf p (totalOf p)) (length bytes-of) =
-        r .stands ∙ ap (λ (i : ℕ). partOf (g .flash) i (length bytes-of)) place in
-        rw last
-        (confirmed-heard s g (Done p written) (totalOf p) d at (again .cut .total-most)
-        (repeat-confirmed p written (payloadOf g) (g .flash) _ again stands))
+        let f = done-facts p (length (g .flash)) written (held-then (Done p written) at) in
+        phase-says (Done p written) p (totalOf p) at h (omega arith) (done (ap (Done p) (f .all)) refl)
 
-    says : Says x (packetReply total accepted)
+    says : Says x (packetReply k accepted)
     says = go (s .phase) refl (reached-tracked o gs all)
 
-    notices : Says x (notice 0)
-    notices =
-        last-notices s g bytes total (record {
+    notices : numberAt 2 (payloadOf g) 0 ≡ k → Says x (notice 0)
+    notices total =
+        last-notices s g bytes k (record {
           count = r .count;
           packet = r .packet;
-          total-field = total-is;
-          number-field = ap (λ (l : List ℕ). numberAt 2 l 2) (r .same) ∙ former .number-field;
-          some = former .some;
+          total-field = total;
+          number-field = r .number-field;
+          some = r .some;
           acknowledged = says;
         })

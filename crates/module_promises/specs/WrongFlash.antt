@@ -21,7 +21,7 @@ use Rattle.module_promises.specs.Promises.{online, opened, LastParameter
 use Rattle.module_promises.specs.Promises.{FlashAtSuccess, SuccessHoldsOf, OnlyInRangeOf}
 use Rattle.module_promises.specs.When.{last-only}
 use Rattle.module_promises.specs.Tiny.{flash, image, declares, sends, zeros64, tiny-bytes, heardOf, no-parameters, last-first}
-use Rattle.module_promises.specs.Tiny.{flash8, declares8, sends1, sends2, eight-bytes, begun4, done4, begun8, loading8}
+use Rattle.module_promises.specs.Tiny.{flash8, half, declares8, sends1, sends2, eight-bytes, begun4, done4, begun8, loading8}
 use Rattle.module_promises.specs.WrongRules.{stepBy, writesNothing, writesFirst, comparesNothing, comparesNoSize, writesOneOn}
 use Rattle.module_promises.specs.WrongRules.{writesRepeats, writesAtAddress}
 use Rattle.module_model.specs.declared.phases.Phase.the-variants.{Ready}
@@ -93,10 +93,6 @@ never-holds-refuted promise =
 
 abbrev firster : Step
 firster = stepBy writesFirst
-
--- The flash after packet 1.
-abbrev half : List ℕ
-half = 1 ∷ 2 ∷ 3 ∷ 4 ∷ 9 ∷ 9 ∷ 9 ∷ 9 ∷ []
 
 abbrev y0 : Exchange
 y0 = exchangeBy firster (opened flash8) (given flash8 declares8)

@@ -71,6 +71,22 @@ doneRefuses (Done p written) command d = cond (eqb command packetCommand) (notTa
 abbrev pub refusesRepeats : Rule
 refusesRepeats phase command payload flash = doneRefuses phase command (decideOf phase command payload flash)
 
+-- While loading, a packet that is not the next is refused, repeats too.
+abbrev loadingRefuses : Phase → Say → Decision → Decision
+loadingRefuses (Loading p number written) (Packet k ack) d = cond (eqb k number) (notTaken (Loading p number written)) d
+loadingRefuses (Loading p number written) Nothing d = d
+loadingRefuses (Loading p number written) (Rate rate ack) d = d
+loadingRefuses (Loading p number written) (Parameters ack) d = d
+loadingRefuses (Loading p number written) (Last k state) d = d
+loadingRefuses (Loading p number written) (Restart ack) d = d
+loadingRefuses Closed say d = d
+loadingRefuses Ready say d = d
+loadingRefuses (Begun t) say d = d
+loadingRefuses (Done p written) say d = d
+
+abbrev pub refusesAgain : Rule
+refusesAgain phase command payload flash = let d = decideOf phase command payload flash in loadingRefuses phase (d .say) d
+
 -- The transfer is done with the last packet but one.
 abbrev endsEarly : Phase → Decision → Decision
 endsEarly Closed d = d

@@ -1,13 +1,16 @@
 -- Wrong steps that break M1: one says success on the last packet but one, one does not compare Total, one skips packets, one refuses
--- repeats when done, one refuses all, one says no notice, one drops the transfer at refused parameters.
+-- repeats when done, one while loading, one refuses all, one says no notice, one drops the transfer at refused parameters.
+use Prim.Native.Nat.{ℕ}
 use mathlib.Core.List.{List, [], _∷_, List·Memᴰ, List·Memᴰ·head, List·Memᴰ·tail, List·Memᴰ·not-nil, List·Memᴰ·eq-of-singleton}
-use mathlib.Core.Path.{_≡_, refl}
+use mathlib.Core.Path.{_≡_, refl, ap}
 use native.Mathlib.Omega.{arith}
-use Rattle.octets.specs.Octets.{Bytes, numberAt, little, spelled, partOf, laid}
+use lib.ListN.{getD}
+use Rattle.octets.specs.Octets.{Bytes, numberAt, little, spelled, partOf, sameBytes, laid}
 use Rattle.octets.specs.Lists.{bytes-spelled}
 use Rattle.kinds.specs.Kinds.{kindOf, fitsFlash}
 use Rattle.kinds.specs.declared.Kind.the-variants.{Upgrade}
 use Rattle.pieces.specs.Pieces.{countOf, sizeAt}
+use Rattle.wire.specs.Frame as wire
 use Rattle.commands.specs.Commands.{noticeCommand, accepted, wrongSecond, notUnderstood, largestPacket, parametersReply, packetReply, notice}
 use Rattle.module_model.specs.Phases.{openable, alive, cuts, loadingArises, doneArises}
 use Rattle.module_model.specs.Rules.{decideOf}
@@ -17,12 +20,12 @@ use Rattle.module.specs.Session.{session, openingOf, takes}
 use Rattle.module_promises.specs.Runs.{Step, Exchange, Offer, given, exchangeBy, afterBy, runBy, Says}
 use Rattle.module_promises.specs.RunsLaws.{heard-performed}
 use Rattle.module_promises.specs.Promises.{online, opened, SuccessExactlyOf, Expected, ExpectedSucceedsOf}
-use Rattle.module_promises.specs.Promises.{PacketFrame, RepeatsLast, RepeatSucceedsOf}
+use Rattle.module_promises.specs.Promises.{Acknowledged, PacketFrame, Repeats, RepeatSucceedsOf}
 use Rattle.module_promises.specs.Tiny.{flash, image, declares, sends, tiny-bytes, flash8, declares8, sends1, eight-bytes, heardOf}
-use Rattle.module_promises.specs.Tiny.{sends2, zeros64, begun4, done4, begun8, loading8, has-none, no-parameters, last-first}
+use Rattle.module_promises.specs.Tiny.{sends2, half, zeros64, begun4, done4, begun8, loading8, has-none, no-parameters, last-first}
 use Rattle.module_promises.specs.When.{last-only}
 use Rattle.module_promises.specs.WrongRules.{stepBy, saysEarly, comparesNoTotal, skipsPackets, refusesRepeats, refusesAll, saysNoNotice}
-use Rattle.module_promises.specs.WrongRules.{dropsTransfer}
+use Rattle.module_promises.specs.WrongRules.{refusesAgain, dropsTransfer}
 use Rattle.module_model.specs.declared.phases.Phase.{Phase}
 use Rattle.module_model.specs.declared.phases.Phase.the-variants.{Ready, Done}
 use Rattle.module_model.specs.declared.events.Event.the-variants.{Frame}
@@ -140,8 +143,8 @@ refusing-heard = (
   heard-performed done4 (rules.notTaken (done4 .phase)) (sends .payload) image (sends .reply),
 )
 
--- It is the repeat of the last packet.
-repeats : RepeatsLast (declared ∷ former ∷ []) (given image sends) 1
+-- It is the repeat of packet 1.
+repeats : Repeats (declared ∷ former ∷ []) (given image sends) 4 1
 unfolding numberAt little kindOf partOf
 repeats = record {
   parameters = declared;
@@ -149,19 +152,16 @@ repeats = record {
   last =
       last-first declared (former ∷ []) (rw (refusing-heard .0) (List·Memᴰ·head refl))
       (no-parameters former _ (refusing-heard .1) (refl, (refl, tt)), tt);
+  some = omega arith;
   former = former;
   there = List·Memᴰ·head refl;
-  acknowledged = record {
-    count = 10;
-    packet = refl;
-    total-field = refl;
-    number-field = refl;
-    some = omega arith;
-    acknowledged = rw (refusing-heard .1) (List·Memᴰ·head refl);
-  };
+  acknowledged = rw (refusing-heard .1) (List·Memᴰ·head refl);
+  no-later = λ i more most. absurd (omega (arith, more, most));
+  size-set = λ x m says. rw (List·Memᴰ·eq-of-singleton m);
   count = 10;
   packet = refl;
   same = refl;
+  number-field = refl;
   stands = refl;
 }
 
@@ -171,8 +171,71 @@ unfolding runBy afterBy openingOf takes alive openable cuts doneArises kindOf fi
     rules.phaseAt
 refuses-repeats-refuted promise =
     let both = promise (online flash) (given flash declares ∷ given flash sends ∷ []) (given image sends) (tiny-bytes .0, (tiny-bytes .1, tt))
-    (tiny-bytes .1) 1 repeats refl refl in
+    (tiny-bytes .1) 4 1 repeats refl refl in
     plain-quiet (Packet 0 notUnderstood) (refl, refl) .no-packet 1 (rw (refusing-heard .2) at (both .0))
+
+-- ---- repeats refused while loading
+
+abbrev stubborn : Step
+stubborn = stepBy refusesAgain
+
+-- The parameters for 8 bytes, packet 1 of 2, and that packet again.
+abbrev b0 : Exchange
+b0 = exchangeBy stubborn (opened flash8) (given flash8 declares8)
+
+abbrev b1 : Exchange
+b1 = exchangeBy stubborn (b0 .left .session) (given flash8 sends1)
+
+abbrev b2 : Exchange
+b2 = exchangeBy stubborn (b1 .left .session) (given half sends1)
+
+stubborn-heard : (heardOf b0 ≡ parametersReply largestPacket accepted ∷ []) × (heardOf b1 ≡ packetReply 1 accepted ∷ [])
+    × (heardOf b2 ≡ packetReply 0 notUnderstood ∷ [])
+unfolding openingOf takes alive openable cuts loadingArises kindOf fitsFlash countOf sizeAt numberAt little partOf sameBytes rules.decideOf
+    rules.parametersDecision rules.kindDecision rules.packetDecision rules.wellFormed rules.numbersIn rules.firstDecision
+    rules.loadingDecision rules.repeatDecision rules.isPacket rules.isRepeat rules.cutsInto rules.phaseAt
+stubborn-heard = (
+  heard-performed (opened flash8) (decideOf Ready 2 (declares8 .payload) flash8) (declares8 .payload) flash8 (declares8 .reply),
+  heard-performed begun8 (decideOf (begun8 .phase) 5 (sends1 .payload) flash8) (sends1 .payload) flash8 (sends1 .reply),
+  heard-performed loading8 (rules.notTaken (loading8 .phase)) (sends1 .payload) half (sends1 .reply),
+)
+
+none-behind : Acknowledged 2 (b1 ∷ []) → ⊥
+unfolding spelled
+none-behind a =
+    let says : Says b1 (packetReply 2 accepted) = rw (List·Memᴰ·eq-of-singleton (a .there)) at (a .says) in
+    let same : packetReply 2 accepted ≡ packetReply 1 accepted = List·Memᴰ·eq-of-singleton (rw (stubborn-heard .1) at says) in
+    let first : _≡_ {A = ℕ} 2 1 = ap (λ (f : wire.Frame). getD (f .payload) 0 0) same in
+    omega (arith, first)
+
+repeats-first : Repeats (b0 ∷ b1 ∷ []) (given half sends1) 4 1
+unfolding numberAt little kindOf partOf
+repeats-first = record {
+  parameters = b0;
+  since = b1 ∷ [];
+  last =
+      last-first b0 (b1 ∷ []) (rw (stubborn-heard .0) (List·Memᴰ·head refl)) (no-parameters b1 _ (stubborn-heard .1) (refl, tt), tt);
+  some = omega arith;
+  former = b1;
+  there = List·Memᴰ·head refl;
+  acknowledged = rw (stubborn-heard .1) (List·Memᴰ·head refl);
+  no-later = λ i more most a. let is : i ≡ 2 = omega (arith, more, most) in none-behind (rw is at a);
+  size-set = λ x m says. rw (List·Memᴰ·eq-of-singleton m);
+  count = 10;
+  packet = refl;
+  same = refl;
+  number-field = refl;
+  stands = refl;
+}
+
+pub refuses-again-refuted : RepeatSucceedsOf stubborn → ⊥
+unfolding runBy afterBy openingOf takes alive openable cuts loadingArises kindOf fitsFlash countOf sizeAt numberAt little partOf sameBytes
+    rules.decideOf rules.parametersDecision rules.kindDecision rules.packetDecision rules.wellFormed rules.numbersIn rules.firstDecision
+    rules.loadingDecision rules.repeatDecision rules.isPacket rules.isRepeat rules.cutsInto rules.phaseAt
+refuses-again-refuted promise =
+    let both = promise (online flash8) (given flash8 declares8 ∷ given flash8 sends1 ∷ []) (given half sends1)
+    (eight-bytes .0, (eight-bytes .1, tt)) (eight-bytes .1) 4 1 repeats-first refl refl in
+    plain-quiet (Packet 0 notUnderstood) (refl, refl) .no-packet 1 (rw (stubborn-heard .2) at (both .0))
 
 -- ---- all packets refused
 
