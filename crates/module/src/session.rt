@@ -21,6 +21,9 @@ use module_model::Pieces;
 use module_model::SMALLEST_REPLY;
 use module_model::Transfer;
 
+// The idle sum after a frame.
+const SUM_ANEW: u32 = 0;
+
 // The length of the flash at the opening, the milliseconds since the last frame, and how far the session is.
 pub struct Session {
     pub flash: usize,
@@ -107,7 +110,7 @@ impl Session {
         Stepped {
             session: Session {
                 flash: self.flash,
-                idle: 0,
+                idle: SUM_ANEW,
                 phase: next,
             },
             answer: send(say, reply),
