@@ -36,7 +36,7 @@ use Rattle.commands.specs.CommandsLaws.{piece-most, length-packet, length-param
 use Rattle.host_model.specs.StagesLaws.{Small}
 use Rattle.host.specs.StepLaws.{step-phase, sends-fits}
 use Rattle.host_promises.specs.Runs.{Given, leaves, sentBy}
-use Rattle.host_promises.specs.Promises.{Hears, HearsLine, line, frame, GoodStep}
+use Rattle.host_promises.specs.Promises.{largestMessage, Hears, HearsLine, line, frame, GoodStep}
 use Rattle.host_model.specs.Moves.{FitsMove, fits-frame, fits-line}
 use Rattle.host_promises.specs.Arises.{wait-arises}
 use Rattle.host_model.specs.WaitsLaws.{limit-within, first-fits}
@@ -56,12 +56,12 @@ use Rattle.host_model.specs.declared.answers.Move.the-variants.{Stay, Enter, Aw
 -- ---- how long a message is
 
 -- A packet of at most 1,024 bytes has at most 2,072 on the wire.
-packet-short : (image : List ℕ) (size k : ℕ) → size ≤ 1024 → length (wireOf (packetFrame image size k)) ≤ 2072
+packet-short : (image : List ℕ) (size k : ℕ) → size ≤ 1024 → length (wireOf (packetFrame image size k)) ≤ largestMessage
 packet-short image size k h =
     omega (arith, wire-most (packetFrame image size k), length-packet image size k, piece-most image size k)
 
 -- No message is longer, where the packets of its stage are small.
-pub message-short : (plan : Plan) (image : List ℕ) (stage : Stage) → Small stage → length (messageOf plan image stage) ≤ 2072
+pub message-short : (plan : Plan) (image : List ℕ) (stage : Stage) → Small stage → length (messageOf plan image stage) ≤ largestMessage
 message-short plan image Text h = omega arith
 message-short plan image (Asking rate) h = omega (arith, wire-most (rateFrame (numberOfRate rate)))
 message-short plan image (Declaring rate) h =
@@ -162,7 +162,7 @@ pub record Leads (plan : Plan) (image message : List ℕ) (stage next : Stage) (
 
 -- With room a stage is entered.
 pub enters-room : (s : Session) (plan : Plan) (stage : Stage) (image output : List ℕ) → stageFits plan (length image) stage ≡ true
-    → 2072 ≤ length output
+    → largestMessage ≤ length output
     → enters s plan stage image output
     ≡ left (stepped (arrived plan image stage) (Sent (length (messageOf plan image stage)))) (over (messageOf plan image stage) output)
 enters-room s plan stage image output h room =
@@ -170,7 +170,7 @@ enters-room s plan stage image output h room =
     (omega (arith, room, message-short plan image stage (stage-small plan (length image) stage h)))
 
 -- A move to a stage leads there: with its message where it is entered, with nothing where it is awaited.
-module _ (plan : Plan) (image : List ℕ) (stage next : Stage) (g : Given) (f : Fits plan image stage) (room : 2072 ≤ length (g .output))
+module _ (plan : Plan) (image : List ℕ) (stage next : Stage) (g : Given) (f : Fits plan image stage) (room : largestMessage ≤ length (g .output))
     (move : Move) (goes : FitsMove plan (length image) move)
     (answered : leaves (arrived plan image stage) g
     ≡ moved (arrived plan image stage) (wait plan stage 0 0) move image (g .output)) where
@@ -291,7 +291,7 @@ module _ (plan : Plan) (image : List ℕ) (g : Given) where
 
 -- An opening that fits comes to its first stage and sends its message.
 pub opening-sends : (kind : Kind) (w : Wishes) (image output : List ℕ) (start : Start) → w .start ≡ start
-    → fitsFile kind (length image) ≡ true → 2072 ≤ length output
+    → fitsFile kind (length image) ≡ true → largestMessage ≤ length output
     → openingOf (numberOf kind) w image output
     ≡ left
     (stepped (arrived (planOf kind w) image (firstStage start (w .first)))

@@ -22,7 +22,7 @@ use Rattle.host_model.specs.Answers.{pieceSize}
 use Rattle.host_model.specs.AnswersLaws.{Carried}
 use Rattle.host.specs.Step.{Left, Wishes, planOf, openingOf}
 use Rattle.host_promises.specs.Runs.{Given, leaves, sentBy, sentOver, answersOf}
-use Rattle.host_promises.specs.Promises.{piecesFrom, PiecesAreImage, Heard, frame, packetsHeard, framesHeard, startHeard}
+use Rattle.host_promises.specs.Promises.{largestMessage, piecesFrom, PiecesAreImage, Heard, frame, packetsHeard, framesHeard, startHeard}
 use Rattle.host_promises.specs.Promises.{GoodSteps, packetsSent, startSent, GoodLoad, GoodEnds}
 use Rattle.host_model.specs.WaitsLaws.{first-fits}
 use Rattle.host_promises.specs.Forward.{arrived, Fits, Leads, text-step, rate-step, parameters-step, packet-step, last-step, notice-step}
@@ -161,7 +161,7 @@ module _ (plan : Plan) (image : List ℕ) where
 
 -- An opening whose run ends well is a good load: what it sends comes first.
 opening-load : (kind : Kind) (w : Wishes) (image output : List ℕ) (gs : List Given) (start : Start) (sent : List ℕ) → w .start ≡ start
-    → fitsFile kind (length image) ≡ true → 2072 ≤ length output
+    → fitsFile kind (length image) ≡ true → largestMessage ≤ length output
     → EndsFrom (planOf kind w) image (firstStage start (w .first)) gs sent
     → GoodLoad (openingOf (numberOf kind) w image output) gs
     (messageOf (planOf kind w) image (firstStage start (w .first)) ++ sent)
@@ -176,7 +176,7 @@ opening-load kind w image output gs start sent e fits room ends =
     }
 
 -- With the start text and without it.
-module _ (kind : Kind) (w : Wishes) (image output : List ℕ) (fits : fitsFile kind (length image) ≡ true) (room : 2072 ≤ length output)
+module _ (kind : Kind) (w : Wishes) (image output : List ℕ) (fits : fitsFile kind (length image) ≡ true) (room : largestMessage ≤ length output)
     (sent : List ℕ) (hs : List Heard)
     (rest : (gs : List Given) → Fits (planOf kind w) image (Asking (w .first)) → GoodSteps image hs gs
     → EndsFrom (planOf kind w) image (Asking (w .first)) gs sent) where

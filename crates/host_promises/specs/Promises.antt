@@ -59,6 +59,10 @@ pub data PacketAccepted (plan : Plan) (number : ℕ) (g : Given) : Type 0 where
   accepts : Hears g (packetReply number accepted) → PacketAccepted plan number g
   same : plan .same ≡ GoOn → Hears g (packetReply number wrongSecond) → PacketAccepted plan number g
 
+-- No message has more bytes on the wire: 1,030 of payload, each escaped, and twelve about them.
+abbrev pub largestMessage : ℕ
+largestMessage = 2072
+
 -- ---- H1, what is sent
 
 -- Which message follows which, and on which answer: the order of document 001.
@@ -235,7 +239,7 @@ HearsThis g (frame f) = Hears g f
 pub record GoodStep (image : List ℕ) (h : Heard) (g : Given) : Type 0 where
   pub hears : HearsThis g h
   pub image-is : g .image ≡ image
-  pub room : 2072 ≤ length (g .output)
+  pub room : largestMessage ≤ length (g .output)
 
 abbrev pub GoodSteps : List ℕ → List Heard → List Given → Type 0
 GoodSteps image [] gs = gs ≡ []
@@ -270,7 +274,7 @@ abbrev pub GoodEnds : Type 0
 GoodEnds =
     (kind : Kind) (w : Wishes) (image output : List ℕ) (most : ℕ) (gs : List Given) → fitsFile kind (length image) ≡ true
     → most < 256 ^ 2 → 1 ≤ pieceSize most (w .wish) → countOf (length image) (pieceSize most (w .wish)) ≤ largestTotal
-    → 2072 ≤ length output
+    → largestMessage ≤ length output
     → GoodSteps image (startHeard (w .start) (framesHeard (w .first) most (countOf (length image) (pieceSize most (w .wish))))) gs
     → GoodLoad (openingOf (numberOf kind) w image output) gs (loadSent kind w image (pieceSize most (w .wish)))
 

@@ -34,7 +34,7 @@ use Rattle.host_model.specs.Answers.{lowerMove, pieceSize}
 use Rattle.host_model.specs.AnswersLaws.{ack-first}
 use Rattle.host.specs.Step.{Left, Wishes, waitingOf, endedOf, timeStep, openingOf}
 use Rattle.host_promises.specs.Runs.{Given, leaves, afterOf}
-use Rattle.host_promises.specs.Promises.{line, frame, GoodStep, RealEvent, Real, AllReal, Reached, ArisesReached}
+use Rattle.host_promises.specs.Promises.{largestMessage, line, frame, GoodStep, RealEvent, Real, AllReal, Reached, ArisesReached}
 use Rattle.host_model.specs.WaitsLaws.{first-fits, limit-within}
 use Rattle.host_promises.specs.Promises.{Awaits, restart, parameters}
 use Rattle.host_promises.specs.Arises.{arises-wait, wait-arises}
@@ -106,7 +106,7 @@ zeros-real : (n : ℕ) → Bytes (zeros n)
 zeros-real n = bytes-replicate n 0 (omega arith)
 
 abbrev room : List ℕ
-room = zeros 2072
+room = zeros largestMessage
 
 abbrev stepGiven : List ℕ → Event → List ℕ → Given
 stepGiven image e bytes = record { event = e; bytes = bytes; image = image; output = room }
@@ -155,7 +155,7 @@ same-rate a b e = sym (rate-at a) ∙ ap rateAt e ∙ rate-at b
 module _ (plan : Plan) (image : List ℕ) (real : Bytes image) (fits : fitsFile (plan .kind) (length image) ≡ true) where
   -- Such a step is real.
   step-real : (e : Event) (bytes : List ℕ) → RealEvent e → Bytes bytes → Real (stepGiven image e bytes)
-  step-real e bytes r b = record { event-real = r; bytes-real = b; image-real = real; output-real = zeros-real 2072 }
+  step-real e bytes r b = record { event-real = r; bytes-real = b; image-real = real; output-real = zeros-real largestMessage }
 
   -- What is given where a frame is heard, or a line.
   abbrev frameGiven : Frame → Given
@@ -166,7 +166,7 @@ module _ (plan : Plan) (image : List ℕ) (real : Bytes image) (fits : fitsFile 
       record {
         hears = record { count = length (f .payload); event-is = refl; payload-is = take-length (f .payload) };
         image-is = refl;
-        room = omega (arith, zeros-long 2072);
+        room = omega (arith, zeros-long largestMessage);
       }
 
   abbrev lineGiven : List ℕ → Given
@@ -177,7 +177,7 @@ module _ (plan : Plan) (image : List ℕ) (real : Bytes image) (fits : fitsFile 
       record {
         hears = record { count = length l; event-is = refl; line-is = take-length l };
         image-is = refl;
-        room = omega (arith, zeros-long 2072);
+        room = omega (arith, zeros-long largestMessage);
       }
 
   -- A stage that is reached.
@@ -212,12 +212,12 @@ module _ (plan : Plan) (image : List ℕ) (real : Bytes image) (fits : fitsFile 
         image = image;
         image-real = real;
         output = room;
-        output-real = zeros-real 2072;
+        output-real = zeros-real largestMessage;
         steps = [];
         steps-real = tt;
         leads =
             ap (λ (l : Left). l .session)
-            (opening-sends (plan .kind) wishesOf image room start e fits (omega (arith, zeros-long 2072)));
+            (opening-sends (plan .kind) wishesOf image room start e fits (omega (arith, zeros-long largestMessage)));
       }
 
   -- The first rate is reached at once, or by the answer to the start text.
@@ -281,7 +281,7 @@ module _ (plan : Plan) (image : List ℕ) (real : Bytes image) (fits : fitsFile 
       let left-is =
       every-reason s w (frameGiven x) waits .sent (wireOf restartFrame) _ _
       (restart moduleRefused wrongFirst (parameters rate 0 refl (omega arith) (omega arith) (frame-good x .hears) refl) refl refl refl)
-      (omega (arith, wire-most restartFrame, zeros-long 2072)) in
+      (omega (arith, wire-most restartFrame, zeros-long largestMessage)) in
       reach-next s (session (length image) (EndedAt (plan .kind) rate)) (frameGiven x)
       (step-real (event.Frame (x .command) (length (x .payload))) (x .payload) (omega arith) b)
       (ap (λ (l : Left). l .session) left-is) (reach-declaring rate h)
@@ -379,7 +379,7 @@ module _ (plan : Plan) (image : List ℕ) (real : Bytes image) (fits : fitsFile 
         let short = message-short plan image stage (stage-small plan (length image) stage staged) in
         ap (λ (l : Left). l .session) (time-taken repeats (limitOf stage) (omega (arith, few)))
         ∙ rw (le-ltb (limitOf stage) (limitOf stage - 0) (omega arith), lt-ltb repeats mostRepeats few)
-        (ap (λ (l : Left). l .session) (sends-fits _ _ (messageOf plan image stage) room (omega (arith, short, zeros-long 2072))))
+        (ap (λ (l : Left). l .session) (sends-fits _ _ (messageOf plan image stage) room (omega (arith, short, zeros-long largestMessage))))
 
     early-waits : (repeats ms : ℕ) → repeats ≤ mostRepeats → ms < limitOf stage
         → leaves (waitingOf (length image) plan stage 0 repeats) (stepGiven image (Elapsed ms) []) .session

@@ -56,7 +56,7 @@ use Rattle.host.specs.Step.{Wishes, planOf, openingOf}
 use Rattle.host_model.specs.WaitsLaws.{first-fits}
 use Rattle.host.specs.Session as host-session
 use Rattle.host_promises.specs.Runs.{Given, leaves, sentBy}
-use Rattle.host_promises.specs.Promises.{frame, GoodStep}
+use Rattle.host_promises.specs.Promises.{largestMessage, frame, GoodStep}
 use Rattle.host_promises.specs.Forward.{arrived, Leads, text-step, rate-step, parameters-step, packet-step, last-step, notice-step, restart-step}
 use Rattle.host_promises.specs.Forward.{opening-sends}
 use Rattle.host_promises.specs.Forward as load
@@ -257,7 +257,7 @@ module _ (image output reply : List ℕ) where
 
     -- ---- from the last packet's acknowledgement on
 
-    module _ (plan : Plan) (room : 2072 ≤ length output) where
+    module _ (plan : Plan) (room : largestMessage ≤ length output) where
       -- A frame under way to the host is a good step of it.
       good : (f : Frame) → GoodStep image (frame f) (givenWith f)
       good f = record {
@@ -532,7 +532,7 @@ record Starts (plan : Plan) (image : List ℕ) (l : host-step.Left) : Type 0 whe
 
 -- An opening that fits leads there, at once or with the answer to the start text.
 starts : (kind : Kind) (w : Wishes) (image output : List ℕ) (start : Start) → w .start ≡ start → fitsFile kind (length image) ≡ true
-    → 2072 ≤ length output → Starts (planOf kind w) image (startedBy start image output (openingOf (numberOf kind) w image output))
+    → largestMessage ≤ length output → Starts (planOf kind w) image (startedBy start image output (openingOf (numberOf kind) w image output))
 starts kind w image output AtOnce e fits room =
     let plan = planOf kind w in
     let opening = opening-sends kind w image output AtOnce e fits room in

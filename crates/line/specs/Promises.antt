@@ -26,6 +26,7 @@ use Rattle.host_model.specs.declared.waits.Phase.the-variants.{Waiting}
 use Rattle.host_model.specs.declared.waits.Wait.{Wait}
 use Rattle.board_end.specs.Board.{BoardLeft}
 use Rattle.host_end.specs.HostEnd.{hostHears}
+use Rattle.host_promises.specs.Promises.{largestMessage}
 use Rattle.board_end.specs.declared.board.Board.{Board}
 use Rattle.line.specs.Feeds.{BoardAfter, Fed, Roomy, boardAfter, bytesOf, cleanBytes, fedOf}
 use Rattle.line.specs.Joined.{Allowed, HostSession, Joined, May, ModuleSession, Move, after, afterAll, hostLeaves, joined}
@@ -109,7 +110,7 @@ LosslessEnds =
     -- from any open session of the module, whatever it has been through, over a flash of its length that the image fits,
     → (s : ModuleSession) (flash : List ℕ) → takes s ≡ true → length flash ≡ s .flash → baseOf kind + length image ≤ length flash
     -- with an output of at least 2,072 bytes lent to the host and a reply buffer of at least 64 lent to the module,
-    → (output reply : List ℕ) → 2072 ≤ length output → smallestReply ≤ length reply
+    → (output reply : List ℕ) → largestMessage ≤ length output → smallestReply ≤ length reply
     -- after two turns for each packet and seven more the load is over, the image in its range and no other byte of the flash changed.
     → Loaded (talks image output reply (turnsOf (countOf (length image) size)) (talkFrom kind w image output s flash))
     (laid flash (baseOf kind) image)

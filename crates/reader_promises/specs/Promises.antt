@@ -8,7 +8,7 @@ use lib.Dec.{eqb}
 use lib.ListN.{length, take, drop}
 use Rattle.octets.specs.Octets.{Bytes}
 use Rattle.wire.specs.Escape.{headMark}
-use Rattle.wire.specs.Frame.{Frame, frame, Acceptable, wireOf, longestPayload}
+use Rattle.wire.specs.Frame.{Frame, frame, Acceptable, wireOf, longestPayload, longestContent}
 use Rattle.wire.specs.Marks.{Form}
 use Rattle.wire.specs.Write.{writeOf}
 use Rattle.refusals.specs.Written.{Out, written}
@@ -25,7 +25,7 @@ use Rattle.reader.specs.declared.steps.Stepped.{Stepped}
 
 -- A reader as the language makes one: its store has 1,035 bytes. Count and flags are any.
 abbrev pub Made : Reader → Type 0
-Made r = length (r .store) ≡ 1035
+Made r = length (r .store) ≡ longestContent
 
 -- What a writer answers and leaves of a frame and an output.
 abbrev pub Writer : Type 0
