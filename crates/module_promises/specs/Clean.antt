@@ -2,11 +2,11 @@
 use Prim.Native.Nat.{ℕ, zero, suc, _+_, _-_, _≤_, _<_}
 use mathlib.Core.Bool.{true}
 use mathlib.Core.List.{List, [], _∷_, _++_, append-assoc, List·Memᴰ·head, List·Memᴰ·tail}
-use mathlib.Core.Logic.{inl, inr}
 use mathlib.Core.Path.{_≡_, refl, sym, ap, _∙_}
 use native.Mathlib.Decide.{decLe, decLt}
 use native.Mathlib.Nat.{zero-mul}
 use native.Mathlib.Omega.{arith}
+use borrow.Author.Tests.{lt-ltb}
 use lib.ListN.{length, take}
 use lib.Seq.{take-all, take-length}
 use Rattle.octets.specs.Octets.{partOf, laid}
@@ -24,11 +24,10 @@ use Rattle.module_model.specs.Due.{taken-waits}
 use Rattle.module_model.specs.Laid.{taken-laid, last-says, flashAfter, flash-long, flash-none, flash-whole}
 use Rattle.module.specs.Session.{session, takes}
 use Rattle.module.specs.SessionLaws.{takes-facts}
-use Rattle.module.specs.Step.{Left, performed, smallestReply}
-use Rattle.module.specs.StepLaws.{step-no-room}
+use Rattle.module.specs.Step.{Left, performed, stepOf, smallestReply}
 use Rattle.module_promises.specs.Runs.{Exchange, exchange, given, Offer, carried, carriedBy, carriedAfter, heardIn, sentBy}
 use Rattle.module_promises.specs.RunsLaws.{heard-performed, carried-append}
-use Rattle.module_promises.specs.Promises.{NoRoom, Pause, Frames, PacketFirst, PacketsFrom, CleanTransfer, Fits, EndsInSuccess}
+use Rattle.module_promises.specs.Promises.{Pause, Frames, PacketFirst, PacketsFrom, CleanTransfer, Fits, EndsInSuccess}
 use Rattle.module_promises.specs.Promises.{CleanSucceeds}
 use Rattle.module_promises.specs.Forward.{waiting-takes, frame-taken, time-counted, counted-takes}
 use Rattle.module_model.specs.declared.phases.Pieces.{Pieces}
@@ -42,33 +41,27 @@ use Rattle.module.specs.declared.session.Session.{Session}
 -- The sum before a pause is not over 7,000 either.
 pause-most : (sum : ℕ) (os : List Offer) → Pause sum os → sum ≤ longestIdle
 pause-most sum [] h = h
-pause-most sum (o ∷ os) (inl h) = pause-most sum os (h .1)
-pause-most sum (o ∷ os) (inr h) = omega (arith, pause-most (sum + h .0) os (h .2))
+pause-most sum (o ∷ os) h = omega (arith, pause-most (sum + h .0) os (h .2))
 
--- After an event the sum is at most as said, and nothing else has moved.
-record Elapses (s : Session) (flash : List ℕ) (sum : ℕ) (l : Left) : Type 0 where
+-- After a time event the sum is as it was or counts it, and nothing else has moved.
+record Elapses (s : Session) (flash : List ℕ) (ms : ℕ) (l : Left) : Type 0 where
   idle : ℕ
-  most : idle ≤ sum
+  most : idle ≤ s .idle + ms
   session-is : l .session ≡ session (s .flash) idle (s .phase)
   flash-is : l .flash ≡ flash
 
--- An event that is refused for want of room leaves all as it was.
-refused-elapses : (s : Session) (flash : List ℕ) (sum : ℕ) (o : Offer) → s .idle ≤ sum → NoRoom o
-    → Elapses s flash sum (exchange s (given flash o) .left)
-refused-elapses s flash sum o below none =
-    rw (step-no-room s (o .event) (o .payload) flash (o .reply) none)
-    (record { idle = s .idle; most = below; session-is = refl; flash-is = refl })
-
--- A time event is refused so or counted.
-time-elapses : (s : Session) (flash : List ℕ) (sum ms : ℕ) (o : Offer) → takes s ≡ true → length flash ≡ s .flash → o .event ≡ Elapsed ms
-    → s .idle ≤ sum → sum + ms ≤ longestIdle → Elapses s flash (sum + ms) (exchange s (given flash o) .left)
-time-elapses s flash sum ms o t size e below short = go (decLt (length (o .reply)) smallestReply)
+elapses : (s : Session) (flash : List ℕ) (ms : ℕ) (o : Offer) → takes s ≡ true → length flash ≡ s .flash → o .event ≡ Elapsed ms
+    → s .idle + ms ≤ longestIdle → Elapses s flash ms (exchange s (given flash o) .left)
+unfolding stepOf
+elapses s flash ms o t size e short = go (decLt (length (o .reply)) smallestReply)
   where
-    go : Dec (length (o .reply) < smallestReply) → Elapses s flash (sum + ms) (exchange s (given flash o) .left)
-    go (yes none) = refused-elapses s flash (sum + ms) o (omega (arith, below)) none
+    go : Dec (length (o .reply) < smallestReply) → Elapses s flash ms (exchange s (given flash o) .left)
+    go (yes no-room) =
+        rw (lt-ltb (length (o .reply)) smallestReply no-room)
+        (record { idle = s .idle; most = omega arith; session-is = refl; flash-is = refl })
     go (no room) =
-        rw (e, time-counted s ms (o .payload) flash (o .reply) t size (omega (arith, room)) (omega (arith, below, short)))
-        (record { idle = s .idle + ms; most = omega (arith, below); session-is = refl; flash-is = refl })
+        rw (e, time-counted s ms (o .payload) flash (o .reply) t size (omega (arith, room)) short)
+        (record { idle = s .idle + ms; most = omega arith; session-is = refl; flash-is = refl })
 
 -- After a pause the session still takes events, in the same phase, over the same flash.
 record Waited (s : Session) (flash : List ℕ) (os : List Offer) : Type 0 where
@@ -76,28 +69,17 @@ record Waited (s : Session) (flash : List ℕ) (os : List Offer) : Type 0 where
   takes-on : takes (session (s .flash) idle (s .phase)) ≡ true
   after : carriedAfter s flash os ≡ record { session = session (s .flash) idle (s .phase); flash = flash }
 
--- One event, and what follows.
-waits-on : (s : Session) (flash : List ℕ) (sum : ℕ) (o : Offer) (os : List Offer) (one : Elapses s flash sum (exchange s (given flash o) .left))
-    → Waited (session (s .flash) (one .idle) (s .phase)) flash os → Waited s flash (o ∷ os)
-unfolding carriedAfter
-waits-on s flash sum o os one rest =
-    record { idle = rest .idle; takes-on = rest .takes-on; after = rw (one .session-is, one .flash-is) (rest .after) }
-
 pause-waits : (s : Session) (flash : List ℕ) (sum : ℕ) (os : List Offer) → takes s ≡ true → length flash ≡ s .flash → s .idle ≤ sum
     → Pause sum os → Waited s flash os
 unfolding carriedAfter
 pause-waits s flash sum [] t size below h = record { idle = s .idle; takes-on = t; after = refl }
-pause-waits s flash sum (o ∷ os) t size below (inl h) =
-    let one = refused-elapses s flash sum o below (h .0) in
-    let open-still = counted-takes s (one .idle) t (omega (arith, one .most, pause-most sum os (h .1))) in
-    waits-on s flash sum o os one
-    (pause-waits (session (s .flash) (one .idle) (s .phase)) flash sum os open-still size (one .most) (h .1))
-pause-waits s flash sum (o ∷ os) t size below (inr h) =
+pause-waits s flash sum (o ∷ os) t size below h =
     let short : sum + h .0 ≤ longestIdle = pause-most (sum + h .0) os (h .2) in
-    let one = time-elapses s flash sum (h .0) o t size (h .1) below short in
-    let open-still = counted-takes s (one .idle) t (omega (arith, one .most, short)) in
-    waits-on s flash (sum + h .0) o os one
-    (pause-waits (session (s .flash) (one .idle) (s .phase)) flash (sum + h .0) os open-still size (one .most) (h .2))
+    let one = elapses s flash (h .0) o t size (h .1) (omega (arith, below, short)) in
+    let next = session (s .flash) (one .idle) (s .phase) in
+    let open-still : takes next ≡ true = counted-takes s (one .idle) t (omega (arith, one .most, below, short)) in
+    let rest = pause-waits next flash (sum + h .0) os open-still size (omega (arith, one .most, below)) (h .2) in
+    record { idle = rest .idle; takes-on = rest .takes-on; after = rw (one .session-is, one .flash-is) (rest .after) }
 
 -- ---- runs that end in success
 

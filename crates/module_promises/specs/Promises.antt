@@ -266,15 +266,10 @@ OnlyInRange = OnlyInRangeOf stepOf
 
 -- ---- M3, the clean transfer
 
--- A reply buffer under 64 bytes is offered, so that the event is refused with 2: it is neither time nor a frame. (Those
--- refused with 3 are lent another flash: CleanAmongRefused.)
-abbrev pub NoRoom : Offer → Type 0
-NoRoom o = length (o .reply) < smallestReply
-
--- Events that are refused so, frames too, and time events whose milliseconds, counted on from a sum, come to at most 7,000.
+-- Time events whose milliseconds, counted on from a sum, come to at most 7,000. Their payloads and reply buffers are any.
 abbrev pub Pause : ℕ → List Offer → Type 0
 Pause sum [] = sum ≤ longestIdle
-Pause sum (o ∷ os) = (NoRoom o × Pause sum os) ⊎ ((ms : ℕ) × (o .event ≡ Elapsed ms) × Pause (sum + ms) os)
+Pause sum (o ∷ os) = (ms : ℕ) × (o .event ≡ Elapsed ms) × Pause (sum + ms) os
 
 -- A frame is offered with a reply buffer of at least 64 bytes; its payload is the front of the lent slice.
 pub record Frames (command : ℕ) (payload : List ℕ) (o : Offer) : Type 0 where

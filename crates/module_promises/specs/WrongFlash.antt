@@ -1,6 +1,6 @@
 -- Wrong steps that break M2: one writes nothing, one packet 1 only, one does not compare repeats, one does not compare sizes, one writes
 -- one place further on, one writes repeats, one writes type 1 at address 0.
-use Prim.Native.Nat.{ℕ, _≤_, _<_}
+use Prim.Native.Nat.{ℕ, _+_, _≤_, _<_}
 use mathlib.Core.List.{List, [], _∷_, _++_, List·Memᴰ·head, List·Memᴰ·tail, List·Memᴰ·not-nil, List·Memᴰ·eq-of-singleton}
 use mathlib.Core.Path.{_≡_, refl, sym, ap, _∙_}
 use native.Mathlib.Omega.{arith}
@@ -15,14 +15,15 @@ use Rattle.module_model.specs.Phases.{openable, alive, cuts, loadingArises, don
 use Rattle.module_model.specs.Rules as rules
 use Rattle.module_model.specs.Rules.{decideOf}
 use Rattle.module.specs.Session.{session, openingOf, takes}
-use Rattle.module_promises.specs.Runs.{Step, Exchange, Offer, given, exchangeBy, afterBy, runBy, payloadOf, Says}
+use Rattle.module.specs.Step.{performed}
+use Rattle.module_promises.specs.Runs.{Step, Exchange, Offer, given, exchangeBy, afterBy, runBy, payloadOf, Says, sentBy, heardIn}
 use Rattle.module_promises.specs.RunsLaws.{heard-performed}
 use Rattle.module_promises.specs.Promises.{online, opened, LastParameters, NobodyElse, joined, FirstAcknowledged, AcceptedData, HoldsImage}
-use Rattle.module_promises.specs.Promises.{FlashAtSuccess, SuccessHoldsOf, OnlyInRangeOf}
+use Rattle.module_promises.specs.Promises.{FlashAtSuccess, SuccessHoldsOf, OnlyInRangeOf, baseIn, lengthIn}
 use Rattle.module_promises.specs.When.{last-only}
 use Rattle.module_promises.specs.Tiny.{flash, image, declares, sends, zeros64, tiny-bytes, heardOf, no-parameters, last-first}
 use Rattle.module_promises.specs.Tiny.{flash8, half, declares8, sends1, sends2, eight-bytes, begun4, done4, begun8, loading8}
-use Rattle.module_promises.specs.WrongRules.{stepBy, writesNothing, writesFirst, comparesNothing, comparesNoSize, writesOneOn}
+use Rattle.module_promises.specs.WrongRules.{Rule, stepBy, writesNothing, writesFirst, comparesNothing, comparesNoSize, writesOneOn}
 use Rattle.module_promises.specs.WrongRules.{writesRepeats, writesAtAddress}
 use Rattle.module_model.specs.declared.phases.Phase.the-variants.{Ready}
 use Rattle.module_model.specs.declared.events.Event.the-variants.{Frame}
@@ -56,6 +57,46 @@ two-pieces [] c d n e f = absurd (omega (arith, n))
 two-pieces (p ∷ []) c d n e f = absurd (omega (arith, n))
 two-pieces (p ∷ q ∷ []) c d n e f = rw (e, f)
 two-pieces (p ∷ q ∷ r ∷ ps) c d n e f = absurd (omega (arith, n))
+
+-- ---- a transfer of eight bytes in two packets, by any step
+
+-- The parameters, packet 1, and a last packet over some flash.
+abbrev declared : Step → Exchange
+declared step = exchangeBy step (opened flash8) (given flash8 declares8)
+
+abbrev first : Step → Exchange
+first step = exchangeBy step (declared step .left .session) (given flash8 sends1)
+
+abbrev second : Step → List ℕ → Offer → Exchange
+second step lent o = exchangeBy step (first step .left .session) (given lent o)
+
+-- All are accepted, and the notice comes.
+abbrev Heard8 : Step → List ℕ → Offer → Type 0
+Heard8 step lent o =
+    (heardOf (declared step) ≡ parametersReply largestPacket accepted ∷ [])
+    × (heardOf (first step) ≡ packetReply 1 accepted ∷ [])
+    × (heardOf (second step lent o) ≡ packetReply 2 accepted ∷ notice 0 ∷ [])
+
+-- What is heard of a rule that comes to the phases of ours.
+performed8 : (rule : Rule) (lent : List ℕ) (o : Offer)
+    → let begins = rule Ready 2 (declares8 .payload) flash8 in
+    let goes-on = rule (begun8 .phase) 5 (sends1 .payload) flash8 in
+    let ends = rule (loading8 .phase) 5 (o .payload) lent in
+    (heardIn (sentBy (performed (opened flash8) begins (declares8 .payload) flash8 (declares8 .reply))) ≡ rules.framesOf (begins .say))
+    × (heardIn (sentBy (performed begun8 goes-on (sends1 .payload) flash8 (sends1 .reply))) ≡ rules.framesOf (goes-on .say))
+    × (heardIn (sentBy (performed loading8 ends (o .payload) lent (o .reply))) ≡ rules.framesOf (ends .say))
+performed8 rule lent o = (
+  heard-performed (opened flash8) (rule Ready 2 (declares8 .payload) flash8) (declares8 .payload) flash8 (declares8 .reply),
+  heard-performed begun8 (rule (begun8 .phase) 5 (sends1 .payload) flash8) (sends1 .payload) flash8 (sends1 .reply),
+  heard-performed loading8 (rule (loading8 .phase) 5 (o .payload) lent) (o .payload) lent (o .reply),
+)
+
+-- Those parameters are the last.
+last8 : (step : Step) (lent : List ℕ) (o : Offer) → Heard8 step lent o
+    → LastParameters (declared step ∷ first step ∷ second step lent o ∷ []) (declared step) (first step ∷ second step lent o ∷ [])
+last8 step lent o h =
+    last-first (declared step) (first step ∷ second step lent o ∷ []) (rw (h .0) (List·Memᴰ·head refl))
+    (no-parameters (first step) _ (h .1) (refl, tt), (no-parameters (second step lent o) _ (h .2) (refl, (refl, tt)), tt))
 
 -- ---- nothing is written
 
@@ -94,33 +135,19 @@ never-holds-refuted promise =
 abbrev firster : Step
 firster = stepBy writesFirst
 
-abbrev y0 : Exchange
-y0 = exchangeBy firster (opened flash8) (given flash8 declares8)
-
-abbrev y1 : Exchange
-y1 = exchangeBy firster (y0 .left .session) (given flash8 sends1)
-
-abbrev y2 : Exchange
-y2 = exchangeBy firster (y1 .left .session) (given half sends2)
-
-firster-heard : (heardOf y0 ≡ parametersReply largestPacket accepted ∷ []) × (heardOf y1 ≡ packetReply 1 accepted ∷ [])
-    × (heardOf y2 ≡ packetReply 2 accepted ∷ notice 0 ∷ [])
+firster-heard : Heard8 firster half sends2
 unfolding openingOf takes alive openable cuts loadingArises kindOf fitsFlash countOf sizeAt numberAt little rules.decideOf rules.parametersDecision
     rules.kindDecision rules.packetDecision rules.wellFormed rules.numbersIn rules.firstDecision rules.loadingDecision rules.isPacket
     rules.cutsInto rules.phaseAt rules.stateOf
-firster-heard = (
-  heard-performed (opened flash8) (writesFirst Ready 2 (declares8 .payload) flash8) (declares8 .payload) flash8 (declares8 .reply),
-  heard-performed begun8 (writesFirst (begun8 .phase) 5 (sends1 .payload) flash8) (sends1 .payload) flash8 (sends1 .reply),
-  heard-performed loading8 (writesFirst (loading8 .phase) 5 (sends2 .payload) half) (sends2 .payload) half (sends2 .reply),
-)
+firster-heard = performed8 writesFirst half sends2
 
-not-first : Told y0 (y1 ∷ y2 ∷ []) y2 → ⊥
+not-first : Told (declared firster) ((first firster) ∷ (second firster half sends2) ∷ []) (second firster half sends2) → ⊥
 unfolding runBy afterBy openingOf takes alive openable cuts loadingArises kindOf fitsFlash countOf sizeAt numberAt little laid rules.decideOf
     rules.parametersDecision rules.kindDecision rules.packetDecision rules.wellFormed rules.numbersIn rules.firstDecision
     rules.loadingDecision rules.isPacket rules.cutsInto rules.phaseAt
 not-first t =
-    let one = t .holds .each y1 (List·Memᴰ·head refl) 1 (omega arith) (omega arith) (rw (firster-heard .1) (List·Memᴰ·head refl)) in
-    let two = t .holds .each y2 (List·Memᴰ·tail (List·Memᴰ·head refl)) 2 (omega arith) (omega arith)
+    let one = t .holds .each (first firster) (List·Memᴰ·head refl) 1 (omega arith) (omega arith) (rw (firster-heard .1) (List·Memᴰ·head refl)) in
+    let two = t .holds .each (second firster half sends2) (List·Memᴰ·tail (List·Memᴰ·head refl)) 2 (omega arith) (omega arith)
     (rw (firster-heard .2) (List·Memᴰ·head refl)) in
     let same : half ≡ laid flash8 0 ((1 ∷ 2 ∷ 3 ∷ 4 ∷ []) ++ ((5 ∷ 6 ∷ 7 ∷ 8 ∷ []) ++ [])) =
     t .holds .image ∙ ap (laid flash8 0) (two-pieces (t .pieces) _ _ (t .accepts .count) one two) in
@@ -132,10 +159,8 @@ unfolding runBy afterBy openingOf takes alive openable cuts loadingArises kindOf
     rules.parametersDecision rules.kindDecision rules.packetDecision rules.wellFormed rules.numbersIn rules.firstDecision
     rules.loadingDecision rules.isPacket rules.cutsInto rules.phaseAt
 writes-first-refuted promise =
-    let last = last-first y0 (y1 ∷ y2 ∷ []) (rw (firster-heard .0) (List·Memᴰ·head refl))
-    (no-parameters y1 _ (firster-heard .1) (refl, tt), (no-parameters y2 _ (firster-heard .2) (refl, (refl, tt)), tt)) in
     not-first
-    (told (y0 ∷ y1 ∷ y2 ∷ []) y0 (y1 ∷ y2 ∷ []) y2 last ((λ r. refl), ((λ r. refl), tt))
+    (told ((declared firster) ∷ (first firster) ∷ (second firster half sends2) ∷ []) (declared firster) ((first firster) ∷ (second firster half sends2) ∷ []) (second firster half sends2) (last8 firster half sends2 firster-heard) ((λ r. refl), ((λ r. refl), tt))
     (promise (online flash8) (given flash8 declares8 ∷ given flash8 sends1 ∷ []) (given half sends2) (eight-bytes .0, (eight-bytes .1, tt))
     (eight-bytes .2) (rw (firster-heard .2) (List·Memᴰ·tail (List·Memᴰ·head refl)))))
 
@@ -206,56 +231,42 @@ shorter-bytes : Bytes (shorter .payload)
 unfolding spelled little
 shorter-bytes = bytes-spelled 9 (little (shorter .payload))
 
-abbrev s0 : Exchange
-s0 = exchangeBy loose (opened flash8) (given flash8 declares8)
-
-abbrev s1 : Exchange
-s1 = exchangeBy loose (s0 .left .session) (given flash8 sends1)
-
-abbrev s2 : Exchange
-s2 = exchangeBy loose (s1 .left .session) (given flash8 shorter)
-
-loose-heard : (heardOf s0 ≡ parametersReply largestPacket accepted ∷ []) × (heardOf s1 ≡ packetReply 1 accepted ∷ [])
-    × (heardOf s2 ≡ packetReply 2 accepted ∷ notice 0 ∷ [])
+loose-heard : Heard8 loose flash8 shorter
 unfolding openingOf takes alive openable cuts loadingArises kindOf fitsFlash countOf sizeAt numberAt little rules.decideOf rules.parametersDecision
     rules.kindDecision rules.packetDecision rules.wellFormed rules.numbersIn rules.firstDecision rules.loadingDecision rules.isPacket
     rules.cutsInto rules.phaseAt rules.stateOf
-loose-heard = (
-  heard-performed (opened flash8) (comparesNoSize Ready 2 (declares8 .payload) flash8) (declares8 .payload) flash8 (declares8 .reply),
-  heard-performed begun8 (comparesNoSize (begun8 .phase) 5 (sends1 .payload) flash8) (sends1 .payload) flash8 (sends1 .reply),
-  heard-performed loading8 (comparesNoSize (loading8 .phase) 5 (shorter .payload) flash8) (shorter .payload) flash8 (shorter .reply),
-)
+loose-heard = performed8 comparesNoSize flash8 shorter
 
 -- Both are first acknowledgements.
-first-one : FirstAcknowledged 1 (s1 ∷ s2 ∷ []) s1
+first-one : FirstAcknowledged 1 ((first loose) ∷ (second loose flash8 shorter) ∷ []) (first loose)
 first-one = record {
   before = [];
-  after = s2 ∷ [];
+  after = (second loose flash8 shorter) ∷ [];
   split = refl;
   says = rw (loose-heard .1) (List·Memᴰ·head refl);
   none = λ a. List·Memᴰ·not-nil (a .there);
 }
 
-first-two : FirstAcknowledged 2 (s1 ∷ s2 ∷ []) s2
+first-two : FirstAcknowledged 2 ((first loose) ∷ (second loose flash8 shorter) ∷ []) (second loose flash8 shorter)
 unfolding spelled
 first-two = record {
-  before = s1 ∷ [];
+  before = (first loose) ∷ [];
   after = [];
   split = refl;
   says = rw (loose-heard .2) (List·Memᴰ·head refl);
   none = λ a.
-      let says : Says s1 (packetReply 2 accepted) = rw (List·Memᴰ·eq-of-singleton (a .there)) at (a .says) in
+      let says : Says (first loose) (packetReply 2 accepted) = rw (List·Memᴰ·eq-of-singleton (a .there)) at (a .says) in
       let same : packetReply 2 accepted ≡ packetReply 1 accepted = List·Memᴰ·eq-of-singleton (rw (loose-heard .1) at says) in
       let first : _≡_ {A = ℕ} 2 1 = ap (λ (f : wire.Frame). getD (f .payload) 0 0) same in
       omega (arith, first);
 }
 
 -- Together they are not as long as declared.
-not-loose : (pieces : List (List ℕ)) → AcceptedData s0 (s1 ∷ s2 ∷ []) 2 pieces → ⊥
+not-loose : (pieces : List (List ℕ)) → AcceptedData (declared loose) ((first loose) ∷ (second loose flash8 shorter) ∷ []) 2 pieces → ⊥
 unfolding numberAt little
 not-loose pieces a =
-    let joins = two-pieces pieces (1 ∷ 2 ∷ 3 ∷ 4 ∷ []) (5 ∷ 6 ∷ 7 ∷ []) (a .count) (a .first s1 1 (omega arith) (omega arith) first-one)
-    (a .first s2 2 (omega arith) (omega arith) first-two) in
+    let joins = two-pieces pieces (1 ∷ 2 ∷ 3 ∷ 4 ∷ []) (5 ∷ 6 ∷ 7 ∷ []) (a .count) (a .first (first loose) 1 (omega arith) (omega arith) first-one)
+    (a .first (second loose flash8 shorter) 2 (omega arith) (omega arith) first-two) in
     let seven : _≡_ {A = ℕ} 7 8 = sym (ap length joins) ∙ a .whole in
     omega (arith, seven)
 
@@ -264,12 +275,26 @@ unfolding runBy afterBy openingOf takes alive openable cuts loadingArises kindOf
     rules.parametersDecision rules.kindDecision rules.packetDecision rules.wellFormed rules.numbersIn rules.firstDecision
     rules.loadingDecision rules.isPacket rules.cutsInto rules.phaseAt
 compares-no-size-refuted promise =
-    let last = last-first s0 (s1 ∷ s2 ∷ []) (rw (loose-heard .0) (List·Memᴰ·head refl))
-    (no-parameters s1 _ (loose-heard .1) (refl, tt), (no-parameters s2 _ (loose-heard .2) (refl, (refl, tt)), tt)) in
     let f = promise (online flash8) (given flash8 declares8 ∷ given flash8 sends1 ∷ []) (given flash8 shorter)
     (eight-bytes .0, (eight-bytes .1, tt)) shorter-bytes (rw (loose-heard .2) (List·Memᴰ·tail (List·Memᴰ·head refl))) in
-    let same = last-only (s0 ∷ s1 ∷ s2 ∷ []) (f .parameters) (f .since) s0 (s1 ∷ s2 ∷ []) (f .last) last in
+    let same = last-only ((declared loose) ∷ (first loose) ∷ (second loose flash8 shorter) ∷ []) (f .parameters) (f .since) (declared loose) ((first loose) ∷ (second loose flash8 shorter) ∷ []) (f .last) (last8 loose flash8 shorter loose-heard) in
     not-loose (f .pieces) (rw (same .0, same .1) at (f .accepts))
+
+-- ---- a byte outside the declared range
+
+-- A step that accepts parameters and then changes a byte that they do not declare breaks OnlyInRange.
+outside : (step : Step) (lent : List ℕ) (d p : Offer) (i : ℕ) → Bytes (d .payload) → Bytes (p .payload)
+    → let x = exchangeBy step (opened lent) (given lent d) in
+    heardOf x ≡ parametersReply largestPacket accepted ∷ []
+    → (getD (exchangeBy step (x .left .session) (given lent p) .left .flash) i 0 ≡ getD lent i 0 → ⊥)
+    → (baseIn x ≤ i → i < baseIn x + lengthIn x → ⊥) → OnlyInRangeOf step → ⊥
+unfolding runBy afterBy
+outside step lent d p i bd bp heard differs away promise =
+    let x = exchangeBy step (opened lent) (given lent d) in
+    let there = promise (online lent) (given lent d ∷ []) (given lent p) (bd, tt) bp .1 i differs in
+    let last = last-first x [] (rw heard (List·Memᴰ·head refl)) tt in
+    let same = last-only (x ∷ []) (there .parameters) (there .since) x [] (there .last) last .0 in
+    away (rw same at (there .from-base)) (rw same at (there .to-end))
 
 -- ---- one place further on
 
@@ -287,13 +312,9 @@ shifting-heard = heard-performed (opened flash8) (writesOneOn Ready 2 (declares 
 pub writes-one-on-refuted : OnlyInRangeOf shifting → ⊥
 unfolding runBy afterBy openingOf takes alive openable kindOf fitsFlash countOf numberAt little laid rules.decideOf rules.parametersDecision
     rules.kindDecision rules.packetDecision rules.wellFormed rules.numbersIn rules.firstDecision rules.cutsInto rules.phaseAt
-writes-one-on-refuted promise =
-    let both = promise (online flash8) (given flash8 declares ∷ []) (given flash8 sends) (tiny-bytes .0, tt) (tiny-bytes .1) in
-    let there = both .1 4 (λ (e : _≡_ {A = ℕ} 4 9). omega (arith, e)) in
-    let last = last-first w0 [] (rw shifting-heard (List·Memᴰ·head refl)) tt in
-    let same = last-only (w0 ∷ []) (there .parameters) (there .since) w0 [] (there .last) last .0 in
-    let less : 4 < 4 = rw same at (there .to-end) in
-    omega (arith, less)
+writes-one-on-refuted =
+    outside shifting flash8 declares sends 4 (tiny-bytes .0) (tiny-bytes .1) shifting-heard (λ (e : _≡_ {A = ℕ} 4 9). omega (arith, e))
+    (λ _ (h : 4 < 4). omega (arith, h))
 
 -- ---- a repeat is written behind the last packet
 
@@ -361,10 +382,6 @@ astray-heard = heard-performed (opened flash1) (writesAtAddress Ready 2 (declare
 pub writes-at-address-refuted : OnlyInRangeOf astray → ⊥
 unfolding runBy afterBy openingOf takes alive openable kindOf fitsFlash countOf numberAt little laid rules.decideOf rules.parametersDecision
     rules.kindDecision rules.packetDecision rules.wellFormed rules.numbersIn rules.firstDecision rules.cutsInto rules.phaseAt
-writes-at-address-refuted promise =
-    let both = promise (online flash1) (given flash1 declares1 ∷ []) (given flash1 byte1) (astray-bytes .0, tt) (astray-bytes .1) in
-    let there = both .1 0 (λ (e : _≡_ {A = ℕ} 5 9). omega (arith, e)) in
-    let last = last-first u0 [] (rw astray-heard (List·Memᴰ·head refl)) tt in
-    let same = last-only (u0 ∷ []) (there .parameters) (there .since) u0 [] (there .last) last .0 in
-    let less : 0x8000 ≤ 0 = rw same at (there .from-base) in
-    omega (arith, less)
+writes-at-address-refuted =
+    outside astray flash1 declares1 byte1 0 (astray-bytes .0) (astray-bytes .1) astray-heard (λ (e : _≡_ {A = ℕ} 5 9). omega (arith, e))
+    (λ (h : 0x8000 ≤ 0) _. omega (arith, h))
