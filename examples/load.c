@@ -1,27 +1,25 @@
-/* Loads the blocks of a UBF file into a simulated flash: a host and a module of the library, joined by a line that is an array.
+/* Loads the blocks of a UBF file into a simulated flash: a caller and a post of the library, joined by a line that is two arrays.
  *
  *     gcc -Iinclude examples/load.c target/archive/libexports.a -o load && ./load FILE.ubf */
 #include <stdio.h>
-#include <stdlib.h>
 #include <string.h>
 
 #include "zrnkobal.h"
 
 #define FLASH 262144
 #define LARGEST 524288
-#define MESSAGE 2072 /* more than any message or reply takes */
 #define PIECE 1024
+#define LINE 8192 /* more than what one answer after another brings to be sent */
 
-/* One end of the line: its reader, and what it has sent and the other end has not heard yet. */
-struct end {
-    uint8_t reader[ZRN_READER_BYTES];
-    uint8_t sent[MESSAGE];
+/* One way of the line: what was sent and the other end has not heard yet. Whatever is sent is put behind it, so no message is lost. */
+struct way {
+    uint8_t bytes[LINE];
     size_t count;
 };
 
 static uint8_t flash[FLASH], before[FLASH], file[LARGEST + 1];
-static uint8_t module[ZRN_MODULE_BYTES], host[ZRN_HOST_BYTES];
-static struct end board, desk;
+static uint8_t post[ZRN_POST_BYTES], caller[ZRN_CALLER_BYTES];
+static struct way to_post, to_caller;
 
 static void say_refusal(uint8_t number) {
     uint8_t words[64];
@@ -29,58 +27,54 @@ static void say_refusal(uint8_t number) {
     printf("refused %d, %.*s", number, (int)n, (const char *)words);
 }
 
-/* The board hears what the desk has sent; its replies are written behind one another. */
-static void board_hears(void) {
-    board.count = 0;
-    for (size_t i = 0; i < desk.count; i++) {
-        uint8_t command;
-        size_t count, place, replied;
-        if (zrn_reader_step(board.reader, sizeof board.reader, desk.sent[i], &command, &count) != ZRN_FRAME) continue;
-        count = zrn_reader_payload(board.reader, sizeof board.reader, count, &place);
-        zrn_module_frame(module, sizeof module, command, board.reader + place, count, flash, sizeof flash, board.sent + board.count,
-                         sizeof board.sent - board.count, &replied);
-        board.count += replied;
+static int goes_on(uint8_t answer) { return answer == ZRN_NOTHING || answer == ZRN_WRITTEN; }
+
+static void post_hears(void) {
+    size_t count;
+    for (size_t i = 0; i < to_post.count; i++) {
+        zrn_post_hear(post, sizeof post, to_post.bytes[i], flash, sizeof flash, to_caller.bytes + to_caller.count,
+                      LINE - to_caller.count, &count);
+        to_caller.count += count;
     }
-    desk.count = 0;
+    to_post.count = 0;
 }
 
-/* The desk hears the replies. Answers what the host's session last answered. */
-static uint8_t desk_hears(const uint8_t *image, size_t length, uint8_t *passed) {
-    uint8_t last = ZRN_NOTHING;
-    for (size_t i = 0; i < board.count; i++) {
-        uint8_t command;
-        size_t count, place;
-        if (zrn_reader_step(desk.reader, sizeof desk.reader, board.sent[i], &command, &count) != ZRN_FRAME) continue;
-        count = zrn_reader_payload(desk.reader, sizeof desk.reader, count, &place);
-        last = zrn_host_frame(host, sizeof host, command, desk.reader + place, count, image, length, desk.sent, sizeof desk.sent, &desk.count,
-                              passed);
-        if (last != ZRN_NOTHING && last != ZRN_WRITTEN) return last;
+/* The caller hears the replies to their end; if there are none, time passes, and it sends again or gives up. */
+static uint8_t caller_hears(const uint8_t *image, size_t length, uint8_t *passed) {
+    uint8_t answer = ZRN_NOTHING;
+    size_t count;
+    for (size_t i = 0; i < to_caller.count && goes_on(answer); i++) {
+        answer = zrn_caller_hear(caller, sizeof caller, to_caller.bytes[i], image, length, to_post.bytes + to_post.count,
+                                 LINE - to_post.count, &count, passed);
+        to_post.count += count;
     }
-    return last;
+    if (to_caller.count == 0) {
+        answer = zrn_caller_wait(caller, sizeof caller, 1000, image, length, to_post.bytes, LINE, &count, passed);
+        to_post.count = count;
+    }
+    to_caller.count = 0;
+    return answer;
 }
 
 /* Loads one block. Answers whether the load is done and the flash is right. */
 static int load(uint16_t type, const uint8_t *image, size_t length) {
     static const size_t bases[] = {0, 0x8000, 0x0000, 0x3E000};
-    size_t accepted = 0, total = 0, shown = 0;
-    uint8_t passed = 0;
+    size_t accepted, total, resent, dropped, shown = 0;
+    uint8_t passed = 0, rate;
     memcpy(before, flash, sizeof flash);
-    zrn_reader_new(board.reader, sizeof board.reader);
-    zrn_reader_new(desk.reader, sizeof desk.reader);
-    zrn_module_open(module, sizeof module, flash, sizeof flash);
-    uint8_t answer = zrn_host_open(host, sizeof host, type, image, length, 5, PIECE, 0, 1, desk.sent, sizeof desk.sent, &desk.count);
-    while (answer == ZRN_WRITTEN || answer == ZRN_NOTHING) {
-        if (desk.count == 0) /* nothing is under way: time passes, and the host sends again or gives up */
-            answer = zrn_host_wait(host, sizeof host, 1000, image, length, desk.sent, sizeof desk.sent, &desk.count, &passed);
-        if (answer != ZRN_WRITTEN && answer != ZRN_NOTHING) break;
-        board_hears();
-        answer = desk_hears(image, length, &passed);
-        accepted = zrn_host_progress(host, sizeof host, &total);
+    zrn_post_new(post, sizeof post);
+    to_caller.count = 0;
+    uint8_t answer = zrn_caller_open(caller, sizeof caller, type, image, length, 5, PIECE, 1, 1, to_post.bytes, LINE, &to_post.count);
+    while (goes_on(answer)) {
+        post_hears();
+        answer = caller_hears(image, length, &passed);
+        zrn_caller_view(caller, sizeof caller, &rate, &accepted, &total, &resent, &dropped);
         if (total != 0 && accepted * 4 / total > shown) {
             shown = accepted * 4 / total;
             printf("  packet %zu of %zu\n", accepted, total);
         }
     }
+    post_hears(); /* the restart frame of 21 and 22 */
     if (answer != ZRN_DONE) {
         printf("  ");
         say_refusal(answer);

@@ -55,6 +55,17 @@ extern "C" {
  * stands in them (a byte past their end counts as 0), and are left as they are. */
 #define ZRN_HOST_BYTES 56
 
+/* A caller, which is a host on a line: a reader; how much of the answer to the start text has been heard (4 bytes), messages resent and
+ * frames dropped since the opening (8 bytes each); a host's session. What stands there for no session is taken as an ended one over the
+ * image length in it, for no reader as a fresh one, and the next call writes that down. */
+#define ZRN_CALLER_SESSION (ZRN_READER_BYTES + 20)
+#define ZRN_CALLER_BYTES (ZRN_CALLER_SESSION + ZRN_HOST_BYTES)
+
+/* A post, which is a module on a line that waits for the start text: a reader; how much of the start text has been heard (4 bytes),
+ * frames dropped (8 bytes); a module's session. Read as a caller is; without a session that takes events it waits. */
+#define ZRN_POST_SESSION (ZRN_READER_BYTES + 12)
+#define ZRN_POST_BYTES (ZRN_POST_SESSION + ZRN_MODULE_BYTES)
+
 /* Rates by number: 1 is 9600, 2 is 19200, 3 is 38400, 4 is 57600, 5 is 115200. */
 
 /* ---- Words */
@@ -154,12 +165,57 @@ bool zrn_host_can_arise(const uint8_t *state, size_t state_length);
 /* Packets accepted, as the answer, and packets in all; both 0 before the piece size is set and once the session has ended. */
 size_t zrn_host_progress(const uint8_t *state, size_t state_length, size_t *total);
 
-/* The rate that the line should have now, 1 to 5; 0 as it was. Set it before what the last call wrote is sent, the restart frame of 21
- * and 22 too. */
+/* The rate that the line should have now, 1 to 5; 0 as it was: at it what the last call wrote goes out, the restart frame of 21 and 22
+ * too, and the answer is heard. A module that agrees to a rate has it from then on, and its answer may be lost: so of the repeats of a
+ * request for a rate the first and the third go out at the rate asked for. */
 uint8_t zrn_host_line_rate(const uint8_t *state, size_t state_length);
 
 /* How often the message under way was resent. */
 uint32_t zrn_host_resent(const uint8_t *state, size_t state_length);
+
+/* Writes a restart frame, for a load that is broken off. ZRN_WRITTEN and its count, or 2. */
+uint8_t zrn_restart_write(uint8_t *out, size_t out_length, size_t *count);
+
+/* ---- A caller: the host fed bytes as they come from a line */
+
+/* Opens a session as zrn_host_open does, with a fresh reader and nothing counted. Where the state is shorter than ZRN_CALLER_BYTES the
+ * answer is 2 before all else, and nothing is written. */
+uint8_t zrn_caller_open(uint8_t *state, size_t state_length, uint16_t type, const uint8_t *image, size_t image_length, uint8_t first,
+                        size_t wish, uint8_t start, uint8_t same, uint8_t *out, size_t out_length, size_t *count);
+
+/* A byte has arrived, or milliseconds have passed. Answers as zrn_host_frame does; 2 for a short state, which is left as lent. */
+uint8_t zrn_caller_hear(uint8_t *state, size_t state_length, uint8_t byte, const uint8_t *image, size_t image_length, uint8_t *out,
+                        size_t out_length, size_t *count, uint8_t *passed);
+uint8_t zrn_caller_wait(uint8_t *state, size_t state_length, uint32_t ms, const uint8_t *image, size_t image_length, uint8_t *out,
+                        size_t out_length, size_t *count, uint8_t *passed);
+
+/* What a screen needs. Answers the stage, 0 to 6 (6: a notice of State 0 has been taken, the image is in the flash); the rate of
+ * zrn_host_line_rate, the packets of zrn_host_progress, and what was resent and dropped since the opening. */
+uint8_t zrn_caller_view(const uint8_t *state, size_t state_length, uint8_t *rate, size_t *accepted, size_t *total, size_t *resent,
+                        size_t *dropped);
+
+/* ---- A post: the module fed bytes as they come from a line. It waits for the start text, answers it and opens a session; after a
+ * restart, or when its idle sum has closed the session, it waits again. */
+
+/* Makes a post that waits; or one with a session open over the flash, if one can be opened there. ZRN_NOTHING; 2, and nothing is written,
+ * where the state is shorter than ZRN_POST_BYTES. */
+uint8_t zrn_post_new(uint8_t *state, size_t state_length);
+uint8_t zrn_post_open(uint8_t *state, size_t state_length, const uint8_t *flash, size_t flash_length);
+
+/* A byte has arrived, or milliseconds have passed. Answers as zrn_module_frame does; 2 for a short state, which is left as lent. */
+uint8_t zrn_post_hear(uint8_t *state, size_t state_length, uint8_t byte, uint8_t *flash, size_t flash_length, uint8_t *reply,
+                      size_t reply_length, size_t *count);
+uint8_t zrn_post_wait(uint8_t *state, size_t state_length, uint32_t ms, uint8_t *flash, size_t flash_length, uint8_t *reply,
+                      size_t reply_length, size_t *count);
+
+/* What a screen, or a file of the flash, needs. Answers 0 while it waits, 1 with a session that is ready, 2 with parameters accepted, 3
+ * while loading, 4 when done; from 2 on the type, the first address of its range, its length, and how many bytes of it are written; what
+ * was dropped; and whether the session was closed by its idle sum. */
+uint8_t zrn_post_view(const uint8_t *state, size_t state_length, uint16_t *type, size_t *base, size_t *length, size_t *written,
+                      size_t *dropped, bool *idle);
+
+/* The rate that these bytes, a reply of a post or a module, agree to: the module has it once they have left. 0 for any other reply. */
+uint8_t zrn_rate_agreed(const uint8_t *reply, size_t reply_length);
 
 #ifdef __cplusplus
 }

@@ -33,6 +33,17 @@ pub struct Calls {
     pub host_line_rate: fn(&[u8]) -> u8,
     pub host_can_arise: fn(&[u8]) -> u8,
     pub host_resent: fn(&[u8]) -> u32,
+    pub restart_write: fn(&mut [u8], &mut usize) -> u8,
+    pub caller_open: HostOpen,
+    pub caller_hear: fn(&mut [u8], u8, &[u8], &mut [u8], &mut usize, &mut u8) -> u8,
+    pub caller_wait: fn(&mut [u8], u32, &[u8], &mut [u8], &mut usize, &mut u8) -> u8,
+    pub caller_view: fn(&[u8], &mut u8, &mut usize, &mut usize, &mut usize, &mut usize) -> u8,
+    pub post_new: fn(&mut [u8]) -> u8,
+    pub post_open: fn(&mut [u8], &[u8]) -> u8,
+    pub post_hear: fn(&mut [u8], u8, &mut [u8], &mut [u8], &mut usize) -> u8,
+    pub post_wait: fn(&mut [u8], u32, &mut [u8], &mut [u8], &mut usize) -> u8,
+    pub post_view: fn(&[u8], &mut u16, &mut usize, &mut usize, &mut usize, &mut usize, &mut u8) -> u8,
+    pub rate_agreed: fn(&[u8]) -> u8,
 }
 
 pub type HostOpen = fn(&mut [u8], u16, &[u8], u8, usize, u8, u8, &mut [u8], &mut usize) -> u8;
@@ -68,6 +79,17 @@ macro_rules! table {
             host_line_rate: $side::host_line_rate,
             host_can_arise: $side::host_can_arise,
             host_resent: $side::host_resent,
+            restart_write: $side::restart_write,
+            caller_open: $side::caller_open,
+            caller_hear: $side::caller_hear,
+            caller_wait: $side::caller_wait,
+            caller_view: $side::caller_view,
+            post_new: $side::post_new,
+            post_open: $side::post_open,
+            post_hear: $side::post_hear,
+            post_wait: $side::post_wait,
+            post_view: $side::post_view,
+            rate_agreed: $side::rate_agreed,
         }
     };
 }

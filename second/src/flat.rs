@@ -9,6 +9,8 @@ use crate::ubf::{self, Fields};
 use crate::wire::{self, MAX_CONTENT};
 use std::ops::Range;
 
+pub use crate::flat_ends::*;
+
 pub const NOTHING: u8 = 0;
 pub const WRITTEN: u8 = 100;
 pub const FRAME: u8 = 101;
@@ -39,20 +41,20 @@ pub const HOST_BYTES: usize = 56;
 // ---- Rows of numbers
 
 /// Reads a number of four bytes; a byte past the end counts as 0.
-fn get4(bytes: &[u8], at: usize) -> u32 {
+pub(crate) fn get4(bytes: &[u8], at: usize) -> u32 {
     let byte = |n: usize| bytes.get(at + n).copied().unwrap_or(0);
     u32::from_le_bytes([byte(0), byte(1), byte(2), byte(3)])
 }
 
-fn get8(bytes: &[u8], at: usize) -> u64 {
+pub(crate) fn get8(bytes: &[u8], at: usize) -> u64 {
     u64::from(get4(bytes, at)) | u64::from(get4(bytes, at + 4)) << 32
 }
 
-fn put4(bytes: &mut [u8], at: usize, number: u32) {
+pub(crate) fn put4(bytes: &mut [u8], at: usize, number: u32) {
     bytes[at..at + 4].copy_from_slice(&number.to_le_bytes());
 }
 
-fn put8(bytes: &mut [u8], at: usize, number: u64) {
+pub(crate) fn put8(bytes: &mut [u8], at: usize, number: u64) {
     bytes[at..at + 8].copy_from_slice(&number.to_le_bytes());
 }
 
@@ -79,7 +81,7 @@ fn written(answer: Result<usize, Refusal>, count: &mut usize) -> u8 {
 }
 
 /// As `written`, where no bytes at all is the answer nothing.
-fn written_or_nothing(answer: Result<usize, Refusal>, count: &mut usize) -> u8 {
+pub(crate) fn written_or_nothing(answer: Result<usize, Refusal>, count: &mut usize) -> u8 {
     match answer {
         Ok(0) => NOTHING,
         other => written(other, count),
@@ -116,7 +118,7 @@ fn flag(number: u32) -> Option<bool> {
 }
 
 /// "Any other count than 0 to 1,035 or any other flag is taken as a fresh reader."
-fn decode_reader(record: &[u8; READER_BYTES]) -> Reader {
+pub(crate) fn decode_reader(record: &[u8; READER_BYTES]) -> Reader {
     let [count, opened, pending] = row(record, READER_ROW);
     let (Some(opened), Some(pending)) = (flag(opened), flag(pending)) else {
         return Reader::new();
@@ -126,7 +128,7 @@ fn decode_reader(record: &[u8; READER_BYTES]) -> Reader {
     Reader::from_parts(store, count as usize, opened, pending)
 }
 
-fn encode_reader(reader: &Reader, record: &mut [u8; READER_BYTES]) {
+pub(crate) fn encode_reader(reader: &Reader, record: &mut [u8; READER_BYTES]) {
     put_row(record, READER_ROW, &[reader.count() as u32, u32::from(reader.opened()), u32::from(reader.pending())]);
     record[READER_STORE..].copy_from_slice(reader.store());
 }
@@ -282,7 +284,7 @@ pub fn ubf_write(
 // ---- The module
 
 /// Phase, type, length, size, number, written.
-fn module_numbers(phase: Phase) -> [u32; MODULE_NUMBERS] {
+pub(crate) fn module_numbers(phase: Phase) -> [u32; MODULE_NUMBERS] {
     let kind = |parameters: Parameters| u32::from(parameters.kind.number());
     match phase {
         Phase::Closed => [0; MODULE_NUMBERS],
@@ -319,7 +321,7 @@ fn host_parting(numbers: [u32; HOST_NUMBERS]) -> Option<Parting> {
 }
 
 /// The session of a record; bytes that are no record, or one that could not arise, are a closed session over the length in them.
-fn decode_module(state: &[u8]) -> module::Session {
+pub(crate) fn decode_module(state: &[u8]) -> module::Session {
     let flash_length = get8(state, MODULE_FLASH);
     let numbers = row(state, MODULE_ROW);
     let session = || {
@@ -330,7 +332,7 @@ fn decode_module(state: &[u8]) -> module::Session {
     session().unwrap_or(module::Session::closed(flash_length))
 }
 
-fn encode_module(session: &module::Session, state: &mut [u8]) {
+pub(crate) fn encode_module(session: &module::Session, state: &mut [u8]) {
     put8(state, MODULE_FLASH, session.flash_length);
     put4(state, MODULE_IDLE, session.idle);
     put_row(state, MODULE_ROW, &module_numbers(session.phase));
@@ -382,7 +384,7 @@ pub fn module_wait(state: &mut [u8], ms: u32, flash: &mut [u8], reply: &mut [u8]
 // ---- The host
 
 /// Wish, then stage, type, first rate, rate, start, same, size, number, waited, repeats.
-fn host_numbers(course: &Course) -> (u64, [u32; HOST_NUMBERS]) {
+pub(crate) fn host_numbers(course: &Course) -> (u64, [u32; HOST_NUMBERS]) {
     let Course { wishes, stage, waited, repeats } = *course;
     let (stage, rate, size, number) = match stage {
         Stage::StartText => (1, 0, 0, 0),
@@ -441,7 +443,7 @@ fn host_course(piece: u64, numbers: [u32; HOST_NUMBERS]) -> Option<Course> {
 }
 
 /// The session of a record; bytes that are no record, or one that could not arise, are an ended session over the length in them.
-fn decode_host(state: &[u8]) -> host::Session {
+pub(crate) fn decode_host(state: &[u8]) -> host::Session {
     let image_length = get8(state, HOST_IMAGE);
     let (piece, numbers) = (get8(state, HOST_WISH), row(state, HOST_ROW));
     let course = host_course(piece, numbers).filter(|course| host_numbers(course) == (piece, numbers));
@@ -454,7 +456,7 @@ fn decode_host(state: &[u8]) -> host::Session {
     }
 }
 
-fn encode_host(session: &host::Session, state: &mut [u8]) {
+pub(crate) fn encode_host(session: &host::Session, state: &mut [u8]) {
     let parted = || (0, session.parting.as_ref().map_or([0; HOST_NUMBERS], parting_numbers));
     let (piece, numbers) = session.course.as_ref().map_or_else(parted, host_numbers);
     put8(state, HOST_IMAGE, session.image_length);
@@ -497,6 +499,11 @@ fn step_host(state: &mut [u8], event: Event, image: &[u8], out: &mut [u8], count
     if session != before {
         encode_host(&session, state);
     }
+    host_answer(answer, count, passed)
+}
+
+/// Puts down what a step of the host answered.
+pub(crate) fn host_answer(answer: Answer, count: &mut usize, passed: &mut u8) -> u8 {
     match answer {
         Answer::Nothing => NOTHING,
         Answer::Done => DONE,
@@ -562,4 +569,9 @@ pub fn host_can_arise(state: &[u8]) -> u8 {
 
 pub fn host_resent(state: &[u8]) -> u32 {
     decode_host(state).resent()
+}
+
+pub fn restart_write(out: &mut [u8], count: &mut usize) -> u8 {
+    *count = 0;
+    written(host::write_restart(out), count)
 }

@@ -142,7 +142,7 @@ impl Stage {
         }
     }
 
-    /// The rate of the line, once one is agreed.
+    /// The agreed rate, once there is one.
     fn agreed(&self) -> Option<Rate> {
         match *self {
             Stage::StartText | Stage::Rate(_) => None,
@@ -291,6 +291,15 @@ impl Course {
         }
     }
 
+    /// The rate of the line: the agreed one. Before that it is as it was, but for the first and third repeat of a request: the module may
+    /// have agreed to the rate asked for, and its answer was lost.
+    fn line_rate(&self) -> Option<Rate> {
+        match (self.stage, self.repeats) {
+            (Stage::Rate(asked), 1 | 3) => Some(asked),
+            (stage, _) => stage.agreed(),
+        }
+    }
+
     fn at(self, stage: Stage, repeats: u32) -> Course {
         Course { stage, waited: 0, repeats, ..self }
     }
@@ -393,10 +402,10 @@ impl Session {
         }
     }
 
-    /// The rate that the line should have now, once one is agreed.
+    /// The rate that the line should have now; none: as it was.
     pub fn line_rate(&self) -> Option<Rate> {
         match self.course {
-            Some(course) => course.stage.agreed(),
+            Some(course) => course.line_rate(),
             None => self.parting.map(|parting| parting.rate),
         }
     }
@@ -428,12 +437,12 @@ fn begin(
     Ok((course, count))
 }
 
-fn write_text(text: &[u8], out: &mut [u8]) -> Result<usize, Refusal> {
+pub(crate) fn write_text(text: &[u8], out: &mut [u8]) -> Result<usize, Refusal> {
     out.get_mut(..text.len()).ok_or(Refusal::OutputTooShort)?.copy_from_slice(text);
     Ok(text.len())
 }
 
-fn write_restart(out: &mut [u8]) -> Result<usize, Refusal> {
+pub(crate) fn write_restart(out: &mut [u8]) -> Result<usize, Refusal> {
     wire::write(0x06, &[], out)
 }
 

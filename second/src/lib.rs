@@ -2,7 +2,9 @@
 //!
 //! `flat` offers the same calls as the C header, over plain bytes and numbers, so that two implementations can be compared.
 
+pub mod ends;
 pub mod flat;
+mod flat_ends;
 pub mod host;
 pub mod kind;
 pub mod module;

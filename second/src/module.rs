@@ -138,10 +138,18 @@ impl Session {
         self.phase != Phase::Closed
     }
 
-    /// Whether an open session's numbers can arise from an opening.
+    /// Whether the session was closed by its idle sum.
+    pub fn idled_out(&self) -> bool {
+        !self.is_open() && self.idle > MAX_IDLE
+    }
+
+    /// Whether the session's numbers can arise from an opening. A closed one has the sum of the frame or the time that closed it.
     pub fn could_arise(&self) -> bool {
-        let opened = (1..=MAX_FLASH).contains(&self.flash_length) && self.idle <= MAX_IDLE;
-        opened
+        let lent = (1..=MAX_FLASH).contains(&self.flash_length);
+        if !self.is_open() {
+            return self.idle == 0 || lent && self.idle == MAX_IDLE + 1;
+        }
+        lent && self.idle <= MAX_IDLE
             && match self.phase {
                 Phase::Closed | Phase::Ready => true,
                 Phase::Begun(parameters) => parameters.fit(self.flash_length),

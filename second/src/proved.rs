@@ -136,6 +136,87 @@ mod c {
         pub fn zrn_host_line_rate(state: *const u8, n: usize) -> u8;
         pub fn zrn_host_can_arise(state: *const u8, n: usize) -> u8;
         pub fn zrn_host_resent(state: *const u8, n: usize) -> u32;
+        pub fn zrn_restart_write(out: *mut u8, out_n: usize, count: *mut usize) -> u8;
+
+        pub fn zrn_caller_open(
+            state: *mut u8,
+            n: usize,
+            kind: u16,
+            image: *const u8,
+            image_n: usize,
+            first: u8,
+            wish: usize,
+            start: u8,
+            same: u8,
+            out: *mut u8,
+            out_n: usize,
+            count: *mut usize,
+        ) -> u8;
+        pub fn zrn_caller_hear(
+            state: *mut u8,
+            n: usize,
+            byte: u8,
+            image: *const u8,
+            image_n: usize,
+            out: *mut u8,
+            out_n: usize,
+            count: *mut usize,
+            passed: *mut u8,
+        ) -> u8;
+        pub fn zrn_caller_wait(
+            state: *mut u8,
+            n: usize,
+            ms: u32,
+            image: *const u8,
+            image_n: usize,
+            out: *mut u8,
+            out_n: usize,
+            count: *mut usize,
+            passed: *mut u8,
+        ) -> u8;
+        pub fn zrn_caller_view(
+            state: *const u8,
+            n: usize,
+            rate: *mut u8,
+            accepted: *mut usize,
+            total: *mut usize,
+            resent: *mut usize,
+            dropped: *mut usize,
+        ) -> u8;
+
+        pub fn zrn_post_new(state: *mut u8, n: usize) -> u8;
+        pub fn zrn_post_open(state: *mut u8, n: usize, flash: *const u8, flash_n: usize) -> u8;
+        pub fn zrn_post_hear(
+            state: *mut u8,
+            n: usize,
+            byte: u8,
+            flash: *mut u8,
+            flash_n: usize,
+            reply: *mut u8,
+            reply_n: usize,
+            count: *mut usize,
+        ) -> u8;
+        pub fn zrn_post_wait(
+            state: *mut u8,
+            n: usize,
+            ms: u32,
+            flash: *mut u8,
+            flash_n: usize,
+            reply: *mut u8,
+            reply_n: usize,
+            count: *mut usize,
+        ) -> u8;
+        pub fn zrn_post_view(
+            state: *const u8,
+            n: usize,
+            kind: *mut u16,
+            base: *mut usize,
+            length: *mut usize,
+            written: *mut usize,
+            dropped: *mut usize,
+            idle: *mut u8,
+        ) -> u8;
+        pub fn zrn_rate_agreed(reply: *const u8, reply_n: usize) -> u8;
     }
 }
 
@@ -404,4 +485,136 @@ pub fn host_can_arise(state: &[u8]) -> u8 {
 
 pub fn host_resent(state: &[u8]) -> u32 {
     unsafe { c::zrn_host_resent(state.as_ptr(), state.len()) }
+}
+
+pub fn restart_write(out: &mut [u8], count: &mut usize) -> u8 {
+    unsafe { c::zrn_restart_write(out.as_mut_ptr(), out.len(), count) }
+}
+
+#[allow(clippy::too_many_arguments)]
+pub fn caller_open(
+    state: &mut [u8],
+    kind: u16,
+    image: &[u8],
+    first: u8,
+    wish: usize,
+    start: u8,
+    same: u8,
+    out: &mut [u8],
+    count: &mut usize,
+) -> u8 {
+    unsafe {
+        c::zrn_caller_open(
+            state.as_mut_ptr(),
+            state.len(),
+            kind,
+            image.as_ptr(),
+            image.len(),
+            first,
+            wish,
+            start,
+            same,
+            out.as_mut_ptr(),
+            out.len(),
+            count,
+        )
+    }
+}
+
+pub fn caller_hear(state: &mut [u8], byte: u8, image: &[u8], out: &mut [u8], count: &mut usize, passed: &mut u8) -> u8 {
+    unsafe {
+        c::zrn_caller_hear(
+            state.as_mut_ptr(),
+            state.len(),
+            byte,
+            image.as_ptr(),
+            image.len(),
+            out.as_mut_ptr(),
+            out.len(),
+            count,
+            passed,
+        )
+    }
+}
+
+pub fn caller_wait(state: &mut [u8], ms: u32, image: &[u8], out: &mut [u8], count: &mut usize, passed: &mut u8) -> u8 {
+    unsafe {
+        c::zrn_caller_wait(
+            state.as_mut_ptr(),
+            state.len(),
+            ms,
+            image.as_ptr(),
+            image.len(),
+            out.as_mut_ptr(),
+            out.len(),
+            count,
+            passed,
+        )
+    }
+}
+
+pub fn caller_view(
+    state: &[u8],
+    rate: &mut u8,
+    accepted: &mut usize,
+    total: &mut usize,
+    resent: &mut usize,
+    dropped: &mut usize,
+) -> u8 {
+    unsafe { c::zrn_caller_view(state.as_ptr(), state.len(), rate, accepted, total, resent, dropped) }
+}
+
+pub fn post_new(state: &mut [u8]) -> u8 {
+    unsafe { c::zrn_post_new(state.as_mut_ptr(), state.len()) }
+}
+
+pub fn post_open(state: &mut [u8], flash: &[u8]) -> u8 {
+    unsafe { c::zrn_post_open(state.as_mut_ptr(), state.len(), flash.as_ptr(), flash.len()) }
+}
+
+pub fn post_hear(state: &mut [u8], byte: u8, flash: &mut [u8], reply: &mut [u8], count: &mut usize) -> u8 {
+    unsafe {
+        c::zrn_post_hear(
+            state.as_mut_ptr(),
+            state.len(),
+            byte,
+            flash.as_mut_ptr(),
+            flash.len(),
+            reply.as_mut_ptr(),
+            reply.len(),
+            count,
+        )
+    }
+}
+
+pub fn post_wait(state: &mut [u8], ms: u32, flash: &mut [u8], reply: &mut [u8], count: &mut usize) -> u8 {
+    unsafe {
+        c::zrn_post_wait(
+            state.as_mut_ptr(),
+            state.len(),
+            ms,
+            flash.as_mut_ptr(),
+            flash.len(),
+            reply.as_mut_ptr(),
+            reply.len(),
+            count,
+        )
+    }
+}
+
+#[allow(clippy::too_many_arguments)]
+pub fn post_view(
+    state: &[u8],
+    kind: &mut u16,
+    base: &mut usize,
+    length: &mut usize,
+    written: &mut usize,
+    dropped: &mut usize,
+    idle: &mut u8,
+) -> u8 {
+    unsafe { c::zrn_post_view(state.as_ptr(), state.len(), kind, base, length, written, dropped, idle) }
+}
+
+pub fn rate_agreed(reply: &[u8]) -> u8 {
+    unsafe { c::zrn_rate_agreed(reply.as_ptr(), reply.len()) }
 }

@@ -1,4 +1,5 @@
 // Loads a UBF file over a simulated line with noise, and judges the flash after each block.
+mod ending;
 mod verdict;
 
 use console::Got;

@@ -1,10 +1,10 @@
 // What is said of a load when it has ended.
+use crate::ending::show_ending;
 use console::voice;
 use lanes::Lane;
 use libc::STDOUT_FILENO;
 use meeting::Counts;
 use meeting::Log;
-use posts::show_ending;
 
 // Prints how the load ended, what befell the bytes, and how the flash is. Answers whether the range holds the image and all else is
 // as it was before.

@@ -2,10 +2,15 @@
 ghost use mathlib.Core.List.{[]};
 ghost use mathlib.Core.Path.{_≡_};
 ghost use lib.ListN.{length};
+ghost use Rattle.wire.specs.Write.{writeOf};
+ghost use Rattle.commands.specs.Commands.{restartFrame};
 ghost use Rattle.host_model.specs.Views.{progressOf, lineNumber};
 ghost use Rattle.host.specs.Session.{sessionProgress, sessionRate, sessionRepeats};
 ghost use Rattle.host_model.specs.declared.events.Event.the-variants as Event;
 ghost use Rattle.kept_host.specs.Kept.{stands, sessionIn, opened, keptOpening, kept, keptStep};
+ghost use Rattle.exports.specs.Flat.{writtenFlat};
+use crate::frames::count_of;
+use crate::frames::number_of;
 
 #[no_mangle]
 pub extern "C" fn zrn_host_open(
@@ -97,4 +102,14 @@ pub extern "C" fn zrn_host_resent(state: &[u8]) -> u32
     ensures { λ r. ⌜ r ≡ sessionRepeats (sessionIn (now (state .entry))) ⌝ }
 {
     kept_host::resent(state)
+}
+
+#[no_mangle]
+pub extern "C" fn zrn_restart_write(out: &mut [u8], count: &mut usize) -> u8
+    ensures { λ r. ⌜ record { answer = r; count = now (count .exit); output = now (out .exit) }
+        ≡ writtenFlat (writeOf restartFrame (now (out .entry))) ⌝ }
+{
+    let written = commands::write_restart(out);
+    *count = count_of(written);
+    number_of(written)
 }

@@ -108,10 +108,10 @@ impl Session {
         let phase = self.taken();
         match phase {
             Phase::Ended => LineRate::AsItWas,
-            Phase::EndedAt { kind, rate } => LineRate::Agreed(rate),
+            Phase::EndedAt { kind, rate } => LineRate::At(rate),
             Phase::Waiting(wait) => {
                 let stage = wait.stage;
-                waits::stage_rate(stage)
+                waits::message_rate(stage, wait.repeats)
             }
         }
     }
@@ -202,7 +202,7 @@ impl Session {
                 let plan = wait.plan;
                 let stage = wait.stage;
                 let kind = plan.kind;
-                over_with(image, kind, waits::stage_rate(stage))
+                over_with(image, kind, waits::message_rate(stage, 0))
             }
         }
     }
@@ -249,7 +249,7 @@ fn over_with(image: usize, kind: Kind, line: LineRate) -> Session
 {
     match line {
         LineRate::AsItWas => over(image),
-        LineRate::Agreed(rate) => over_at(image, kind, rate),
+        LineRate::At(rate) => over_at(image, kind, rate),
     }
 }
 

@@ -22,7 +22,7 @@ use Rattle.host_model.specs.declared.plan.Stage.the-variants.{Text, Aski
 use Rattle.host_model.specs.declared.plan.Start.{Start}
 use Rattle.host_model.specs.declared.plan.Start.the-variants.{WithText, AtOnce}
 use Rattle.host_model.specs.declared.views.LineRate.{LineRate}
-use Rattle.host_model.specs.declared.views.LineRate.the-variants.{AsItWas, Agreed}
+use Rattle.host_model.specs.declared.views.LineRate.the-variants.{AsItWas, At}
 use Rattle.host_model.specs.declared.waits.Wait.{Wait}
 use Rattle.host_model.specs.declared.waits.Phase.{Phase}
 use Rattle.host_model.specs.declared.waits.Phase.the-variants.{Ended, EndedAt, Waiting}
@@ -110,7 +110,7 @@ wait-line image w line h =
 -- A load that fails in a phase that could arise leaves one that could.
 with-arises : (image : ℕ) (kind : Kind) (line : LineRate) → loadable kind image ≡ true → phaseArises image (endedAtRate kind line) ≡ true
 with-arises image kind AsItWas h = refl
-with-arises image kind (Agreed rate) h = h
+with-arises image kind (At rate) h = h
 
 pub failed-arises : (image : ℕ) (phase : Phase) → phaseArises image phase ≡ true → phaseArises image (failedPhase phase) ≡ true
 failed-arises image Ended h = h

@@ -10,5 +10,5 @@ pub struct Progress {
 // The rate that the line should have now.
 pub enum LineRate {
     AsItWas,
-    Agreed(Rate),
+    At(Rate),
 }

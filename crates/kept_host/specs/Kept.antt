@@ -62,6 +62,12 @@ stageWords (Sending rate size number) = stageAt sendingStage rate size number
 stageWords (Noticing rate size) = stageAt noticingStage rate size 0
 stageWords (Restarting rate size) = stageAt restartingStage rate size 0
 
+-- The number of a stage, 0 once the session has ended.
+abbrev pub stageNumber : Phase → ℕ
+stageNumber Ended = endedStage
+stageNumber (EndedAt kind rate) = endedStage
+stageNumber (Waiting w) = stageWords (w .stage) .stage
+
 -- The words of a session that waits.
 abbrev pub waitWords : ℕ → Staged → Wait → List ℕ
 waitWords image s w =

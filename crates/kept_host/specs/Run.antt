@@ -26,7 +26,7 @@ use Rattle.host_model.specs.declared.plan.Same.the-variants.{GoOn, Stop}
 use Rattle.host_model.specs.Views.{stageRate, endedAtRate, failedPhase}
 use Rattle.host_model.specs.Waits.{mostRepeats, limitOf, loadable}
 use Rattle.host_model.specs.declared.views.LineRate.{LineRate}
-use Rattle.host_model.specs.declared.views.LineRate.the-variants.{AsItWas, Agreed}
+use Rattle.host_model.specs.declared.views.LineRate.the-variants.{AsItWas, At}
 use Rattle.host_model.specs.Nexts.{resendNext, timeNext, planNext}
 use Rattle.host.specs.Session.{arises}
 use Rattle.host.specs.Step.{Left, Wishes, sends, endedOf, performs, resends, moved, timeStep, eventStep, phaseStep, stepOf}
@@ -58,7 +58,7 @@ RealLeft l = Real (l .session)
 -- A load that has failed has no wish, whatever rate it keeps.
 rate-wish : (kind : Kind) (line : LineRate) → wishIn (endedAtRate kind line) < 2 ^ 64
 rate-wish kind AsItWas = omega arith
-rate-wish kind (Agreed rate) = omega arith
+rate-wish kind (At rate) = omega arith
 
 failed-wish : (phase : Phase) → wishIn (failedPhase phase) < 2 ^ 64
 failed-wish Ended = omega arith

@@ -7,13 +7,13 @@ use host::LineRate;
 use stages::rate_number;
 
 // The answer's number, the count to send, the byte passed on.
-pub(crate) struct Told {
-    pub(crate) number: u8,
-    pub(crate) count: usize,
-    pub(crate) passed: u8,
+pub struct Told {
+    pub number: u8,
+    pub count: usize,
+    pub passed: u8,
 }
 
-pub(crate) fn told_of(answer: Answer) -> Told
+pub fn told_of(answer: Answer) -> Told
     ensures { λ r. ⌜ r ≡ toldOf answer ⌝ }
 {
     match answer {
@@ -55,6 +55,6 @@ pub(crate) fn line_number(rate: LineRate) -> u8
 {
     match rate {
         LineRate::AsItWas => 0,
-        LineRate::Agreed(agreed) => rate_number(agreed),
+        LineRate::At(agreed) => rate_number(agreed),
     }
 }

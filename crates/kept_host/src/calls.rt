@@ -4,12 +4,15 @@ ghost use mathlib.Core.List.{[]};
 ghost use lib.ListN.{length};
 ghost use Rattle.host_model.specs.Views.{progressOf, lineNumber};
 ghost use Rattle.host.specs.Session.{sessionProgress, sessionRate, sessionRepeats};
-ghost use Rattle.kept_host.specs.Kept.{sessionIn, kept, keptStep};
+ghost use Rattle.kept_host.specs.Kept.{sessionIn, stageWords, stageNumber, kept, keptStep};
 use crate::answers::line_number;
 use crate::answers::told_of;
 use crate::kept::keep;
 use crate::kept::session_in;
+use crate::record;
 use host::Event;
+use host::Phase;
+use stages::Stage;
 
 // A frame has arrived.
 pub fn frame(
@@ -123,4 +126,33 @@ pub fn resent(state: &[u8]) -> u32
     ensures { λ r. ⌜ r ≡ sessionRepeats (sessionIn (now (state .entry))) ⌝ }
 {
     session_in(state).resent()
+}
+
+// The number of the stage, 0 for a session that has ended.
+pub fn stage(state: &[u8]) -> u8
+    ensures { λ r. ⌜ r ≡ stageNumber (sessionIn (now (state .entry)) .phase) ⌝ }
+{
+    let session = session_in(state);
+    let phase = session.phase;
+    match phase {
+        Phase::Ended => record::ENDED_STAGE as u8,
+        Phase::EndedAt { .. } => record::ENDED_STAGE as u8,
+        Phase::Waiting(wait) => {
+            let stage = wait.stage;
+            number_of(stage)
+        }
+    }
+}
+
+fn number_of(stage: Stage) -> u8
+    ensures { λ r. ⌜ r ≡ stageWords stage .stage ⌝ }
+{
+    match stage {
+        Stage::Text => record::TEXT_STAGE as u8,
+        Stage::Asking(_) => record::ASKING_STAGE as u8,
+        Stage::Declaring(_) => record::DECLARING_STAGE as u8,
+        Stage::Sending { .. } => record::SENDING_STAGE as u8,
+        Stage::Noticing { .. } => record::NOTICING_STAGE as u8,
+        Stage::Restarting { .. } => record::RESTARTING_STAGE as u8,
+    }
 }

@@ -10,7 +10,7 @@ use host::Phase;
 use host::Session;
 
 // The record of a session, at the front of the bytes.
-pub(crate) fn write(session: Session, state: &mut [u8])
+pub fn write(session: Session, state: &mut [u8])
     ensures { λ _. ⌜ now (state .exit) ≡ recorded (wordsOf session) (now (state .entry)) ⌝ }
 {
     let words = words_of(session);
@@ -31,7 +31,7 @@ pub fn stands(state: &[u8]) -> bool
 }
 
 // The session that the bytes keep; any others keep an ended one over the image length that is in them.
-pub(crate) fn session_in(state: &[u8]) -> Session
+pub fn session_in(state: &[u8]) -> Session
     ensures { λ r. ⌜ r ≡ sessionIn (now (state .entry)) ⌝ }
 {
     if stands(state) {

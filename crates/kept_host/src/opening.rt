@@ -42,7 +42,7 @@ pub fn open(
 }
 
 // The opening by numbers: 106 and an ended session for a rate, start or same that is none.
-fn begin(
+pub fn begin(
     number: u16,
     image: &[u8],
     first: u8,

@@ -25,7 +25,7 @@ pub(crate) const REPEATS_PLACE: usize = 52;
 
 pub(crate) const RECORD_WORDS: usize = 14;
 
-pub(crate) const RECORD_BYTES: usize = 4 * RECORD_WORDS;
+pub const RECORD_BYTES: usize = 4 * RECORD_WORDS;
 
 pub(crate) const ENDED_STAGE: u32 = 0;
 

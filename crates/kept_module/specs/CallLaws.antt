@@ -47,9 +47,7 @@ unfolding sessionIn stands
 session-by st fields s genuine f g e = rw (e, g, f)
 
 -- An opening.
-pub opening-by : (st flash after ws : List ℕ) (first : Stepped) (number : ℕ) → recordBytes ≤ length st → first ≡ openingOf flash
-    → ws ≡ wordsOf (first .session) → after ≡ recorded ws st → number ≡ numberIn (first .answer)
-    → opened number after ≡ keptOpening st flash
+pub opening-by : (st flash after : List ℕ) (first : Stepped) (number : ℕ) → recordBytes ≤ length st → first ≡ openingOf flash
+    → after ≡ recorded (wordsOf (first .session)) st → number ≡ numberIn (first .answer) → opened number after ≡ keptOpening st flash
 unfolding keptOpening
-opening-by st flash after ws first number room e w k n =
-    rw (k, w, n, e, le-ltb (length st) recordBytes room)
+opening-by st flash after first number room e k n = rw (k, n, e, le-ltb (length st) recordBytes room)

@@ -10,7 +10,7 @@ use crate::reading::session_of;
 use crate::record;
 use crate::writing::keep;
 use crate::writing::stands;
-use crate::writing::words_of;
+use crate::writing::write;
 use module::Answer;
 use module::Event;
 use module::Session;
@@ -25,7 +25,7 @@ pub fn open(state: &mut [u8], flash: &[u8]) -> u8
     let first = Session::opening(flash);
     let session = first.session;
     let answer = first.answer;
-    flat::store(&words_of(session), state);
+    write(session, state);
     number_of(answer)
 }
 
@@ -33,8 +33,15 @@ pub fn open(state: &mut [u8], flash: &[u8]) -> u8
 pub fn is_open(state: &[u8]) -> bool
     ensures { λ r. ⌜ r ≡ takes (sessionIn (now (state .entry))) ⌝ }
 {
+    session_in(state).is_open()
+}
+
+// The session in the bytes; in the record of none a closed one over the flash length that stands there.
+pub fn session_in(state: &[u8]) -> Session
+    ensures { λ r. ⌜ r ≡ sessionIn (now (state .entry)) ⌝ }
+{
     let fields = fields_in(state);
-    session_of(stands(fields, state), fields).is_open()
+    session_of(stands(fields, state), fields)
 }
 
 // A frame has arrived.
@@ -87,7 +94,7 @@ fn step(
 }
 
 // An answer as a number, and the bytes that it sends.
-fn number_of(answer: Answer) -> u8
+pub fn number_of(answer: Answer) -> u8
     ensures { λ r. ⌜ r ≡ numberIn answer ⌝ }
 {
     match answer {
@@ -97,7 +104,7 @@ fn number_of(answer: Answer) -> u8
     }
 }
 
-fn count_of(answer: Answer) -> usize
+pub fn count_of(answer: Answer) -> usize
     ensures { λ r. ⌜ r ≡ countIn answer ⌝ }
 {
     match answer {

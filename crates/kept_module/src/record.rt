@@ -17,7 +17,7 @@ pub(crate) const WRITTEN_PLACE: usize = 32;
 
 pub(crate) const RECORD_WORDS: usize = 9;
 
-pub(crate) const RECORD_BYTES: usize = 4 * RECORD_WORDS;
+pub const RECORD_BYTES: usize = 4 * RECORD_WORDS;
 
 pub(crate) const CLOSED_PHASE: u32 = 0;
 

@@ -101,12 +101,19 @@ fn type_of(kind: Kind) -> u32
     kinds::number_of(kind) as u32
 }
 
+// The record of a session, at the front of the bytes.
+pub fn write(session: Session, state: &mut [u8])
+    ensures { λ _. ⌜ now (state .exit) ≡ recorded (wordsOf session) (now (state .entry)) ⌝ }
+{
+    flat::store(&words_of(session), state);
+}
+
 // Whether the front of the bytes is the record of a session.
 pub(crate) fn stands(session: Session, state: &[u8]) -> bool
     ensures { λ r. ⌜ r ≡ standsFor (wordsOf session) (now (state .entry)) ⌝ }
 {
     let mut bytes = [0u8; record::RECORD_BYTES];
-    flat::store(&words_of(session), &mut bytes);
+    write(session, &mut bytes);
     octets::same(&bytes, octets::part(state, 0, record::RECORD_BYTES))
 }
 
@@ -115,6 +122,6 @@ pub(crate) fn keep(genuine: bool, session: Session, state: &mut [u8])
     ensures { λ _. ⌜ now (state .exit) ≡ cond genuine (recorded (wordsOf session) (now (state .entry))) (now (state .entry)) ⌝ }
 {
     if genuine {
-        flat::store(&words_of(session), state);
+        write(session, state);
     }
 }

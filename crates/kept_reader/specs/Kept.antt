@@ -41,9 +41,11 @@ flag false = 0
 unfoldable pub bytesOf : Reader → List ℕ
 bytesOf r = spelledAll (lowHalf (r .count) ∷ flag (r .opened) ∷ flag (r .pending) ∷ []) ++ r .store
 
--- Bytes that stand for a reader: a count of at most 1,035 and flags of 0 or 1.
+-- Bytes that stand for a reader: room for its record, a count of at most 1,035 and flags of 0 or 1.
 unfoldable pub stands : List ℕ → Bool
-stands state = leb (numberAt 4 state countPlace) longestContent && (leb (numberAt 4 state openedPlace) 1 && leb (numberAt 4 state pendingPlace) 1)
+stands state =
+    leb readerBytes (length state)
+    && (leb (numberAt 4 state countPlace) longestContent && (leb (numberAt 4 state openedPlace) 1 && leb (numberAt 4 state pendingPlace) 1))
 
 -- The reader in some bytes; where they stand for none, a fresh one.
 unfoldable pub readerIn : List ℕ → Reader
@@ -56,6 +58,10 @@ readerIn state =
       pending = eqb (numberAt 4 state pendingPlace) 1;
     })
     fresh
+
+-- The bytes with a reader at their front, or as they were where it has no room.
+unfoldable pub readerKept : Reader → List ℕ → List ℕ
+readerKept r state = cond (ltb (length state) readerBytes) state (over (bytesOf r) state)
 
 -- What a fresh start answers and leaves.
 pub record Begun : Type 0 where

@@ -45,6 +45,9 @@ module _ (r : Reader) (state : List ℕ) (w : Whole r) (room : readerBytes ≤ l
   unfolding bytesOf
   bytes-long = length-append (spelledAll (wordsOf r)) (r .store) ∙ rw (length-spelled-all (wordsOf r), w .size)
 
+  long : length (over (bytesOf r) state) ≡ length state
+  long = length-over (bytesOf r) state (rw bytes-long room)
+
   front : over (bytesOf r) state ≡ spelledAll (wordsOf r) ++ behind
   unfolding bytesOf over behind
   front = append-assoc (spelledAll (wordsOf r)) (r .store) _
@@ -85,7 +88,7 @@ module _ (r : Reader) (state : List ℕ) (w : Whole r) (room : readerBytes ≤ l
   unfolding readerIn stands
   back =
       let standing : stands (over (bytesOf r) state) ≡ true =
-      rw (count-back, opened-back, pending-back, le-leb _ _ (w .low), le-leb _ _ (flag-low (r .opened)), le-leb _ _ (flag-low (r .pending))) in
+      rw (long, le-leb readerBytes (length state) room, count-back, opened-back, pending-back, le-leb _ _ (w .low), le-leb _ _ (flag-low (r .opened)), le-leb _ _ (flag-low (r .pending))) in
       cond-yes _ _ _ standing
       ∙ rw (store-back, count-back, opened-back, pending-back, flag-back (r .opened), flag-back (r .pending))
 
@@ -109,9 +112,8 @@ step-whole r b w = let k = step-known r (w .size) b in record { size = k .size; 
 one-call : (r : Reader) (state : List ℕ) (b : ℕ) → Whole r → readerBytes ≤ length state → keptStep (over (bytesOf r) state) b ≡ keptAfter (stepOf r b) state
 unfolding keptStep
 one-call r state b w room =
-    let long : length (over (bytesOf r) state) ≡ length state = length-over (bytesOf r) state (rw (bytes-long r state w room) room) in
     let next : Whole (stepOf r b .reader) = step-whole r b w in
-    cond-no _ _ _ (le-ltb (length (over (bytesOf r) state)) readerBytes (rw long room))
+    cond-no _ _ _ (le-ltb (length (over (bytesOf r) state)) readerBytes (rw (long r state w room) room))
     ∙ ap (λ (x : Reader). keptAfter (stepOf x b) (over (bytesOf r) state)) (kept-back r state w room)
     ∙ ap
     (λ (l : List ℕ). record {

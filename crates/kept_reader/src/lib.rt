@@ -1,9 +1,9 @@
 // A reader that its caller keeps as bytes. Its record: count, opened and pending, four bytes each, then the store; whatever is added comes
 // last.
 ghost use mathlib.Core.Path.{_≡_};
-ghost use Prim.Native.Nat.{_≤_, _<_};
+ghost use Prim.Native.Nat.{_≤_};
 ghost use lib.ListN.{length};
-ghost use Rattle.octets.specs.Octets.{partOf, over};
+ghost use Rattle.octets.specs.Octets.{partOf};
 ghost use Rattle.wire.specs.Frame.{longestContent};
 ghost use Rattle.reader.specs.Reader.{fresh, numberIn, commandIn, countIn};
 ghost use Rattle.kept_reader.specs.Kept.{
@@ -11,7 +11,7 @@ ghost use Rattle.kept_reader.specs.Kept.{
   storePlace,
   stands,
   readerIn,
-  bytesOf,
+  readerKept,
   flag,
   keptNew,
   keptStep,
@@ -57,7 +57,7 @@ pub fn step(state: &mut [u8], byte: u8, command: &mut u8, count: &mut usize) -> 
         *count = 0;
         return refusals::NO_ROOM;
     }
-    let stepped = load(state).step(byte);
+    let stepped = reader_in(state).step(byte);
     let heard = stepped.heard;
     keep(stepped.reader, state);
     *command = command_of(heard);
@@ -65,8 +65,8 @@ pub fn step(state: &mut [u8], byte: u8, command: &mut u8, count: &mut usize) -> 
     number_of(heard)
 }
 
-fn load(state: &[u8]) -> Reader
-    requires { ⌜ readerBytes ≤ length (now state) ⌝ }
+// The reader in some bytes; a fresh one where they stand for none.
+pub fn reader_in(state: &[u8]) -> Reader
     ensures { λ r. ⌜ r ≡ readerIn (now (state .entry)) ⌝ }
 {
     if !stands_for_one(state) {
@@ -80,10 +80,13 @@ fn load(state: &[u8]) -> Reader
     }
 }
 
-// Whether count and flags are those of a reader.
+// Whether there is room for a reader, and count and flags are those of one.
 fn stands_for_one(state: &[u8]) -> bool
     ensures { λ r. ⌜ r ≡ stands (now (state .entry)) ⌝ }
 {
+    if state.len() < READER_BYTES {
+        return false;
+    }
     if COUNT_MOST < octets::four_at(state, COUNT) {
         return false;
     }
@@ -102,10 +105,13 @@ fn store_in(state: &[u8]) -> [u8; CONTENT_MOST]
     store
 }
 
-fn keep(reader: Reader, state: &mut [u8])
-    requires { ⌜ readerBytes ≤ length (now state) ⌝ }
-    ensures { λ _. ⌜ now (state .exit) ≡ over (bytesOf reader) (now (state .entry)) ⌝ }
+// Puts a reader at the front of some bytes, if they have room for one.
+pub fn keep(reader: Reader, state: &mut [u8])
+    ensures { λ _. ⌜ now (state .exit) ≡ readerKept reader (now (state .entry)) ⌝ }
 {
+    if state.len() < READER_BYTES {
+        return;
+    }
     let words = [
         flat::low(reader.count),
         flag_of(reader.opened),

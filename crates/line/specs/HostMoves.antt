@@ -36,7 +36,7 @@ use Rattle.host_promises.specs.Runs.{Given, leaves, sentBy}
 use Rattle.host_model.specs.Events.{countIn}
 use Rattle.host_model.specs.Views.{stageRate, endedAtRate}
 use Rattle.host_model.specs.declared.views.LineRate.{LineRate}
-use Rattle.host_model.specs.declared.views.LineRate.the-variants.{AsItWas, Agreed}
+use Rattle.host_model.specs.declared.views.LineRate.the-variants.{AsItWas, At}
 use Rattle.host_promises.specs.Arises.{step-arises, arises-wait}
 use Rattle.host_promises.specs.Turns.{every-turn}
 use Rattle.host_promises.specs.Promises.{Hears, Follows, started, agreed, lowered, declared, continued, noticed}
@@ -177,7 +177,7 @@ module _ (kind : Kind) (w : Wishes) (image : List ℕ) where
       -- A load that failed has ended, whatever rate it keeps.
       rate-stands : (type : Kind) (line : LineRate) → HostStands kind w image (h .begun) (j .from-board) (endedAtRate type line)
       rate-stands type AsItWas = tt
-      rate-stands type (Agreed at) = tt
+      rate-stands type (At at) = tt
 
       -- A message is sent.
       sends-stands : (message : List ℕ) (next : Session) (answer : Answer) → Message wait g message next answer

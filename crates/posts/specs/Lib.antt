@@ -2,3 +2,5 @@
 pub mod Post
 pub mod Caller
 pub mod View
+pub mod Agreed
+pub mod AgreedLaws

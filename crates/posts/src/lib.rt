@@ -1,17 +1,18 @@
-// Both ends of a line as programs keep them: a post that waits for the start text, and a caller that counts what it resends; and how
-// a load ended, in words. These calls are proved to be safe and to end; what they stand on is proved in `line`.
+// Both ends of a line as programs keep them: a post that waits for the start text, and a caller that counts what it resends; the rate of
+// a module's line, and how a load ended.
+mod agreed;
 mod caller;
 mod ending;
 mod post;
 mod view;
 
+pub use agreed::agreed_rate;
 pub use caller::Caller;
 pub use caller::CallerStep;
 pub use ending::Ending;
 pub use ending::begun;
 pub use ending::ended_by;
 pub use ending::said;
-pub use ending::show_ending;
 pub use post::Post;
 pub use post::PostStep;
 pub use view::View;

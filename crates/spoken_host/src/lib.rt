@@ -102,7 +102,7 @@ fn line_rate(session: Session) {
     let line = session.line_rate();
     match line {
         LineRate::AsItWas => console::say(b"; line as it was"),
-        LineRate::Agreed(rate) => {
+        LineRate::At(rate) => {
             console::say(b"; line at ");
             rate_words(rate);
         }

@@ -5,6 +5,6 @@ mod waits;
 
 pub use nexts::event_next;
 pub use nexts::plan_next;
+pub use views::message_rate;
 pub use views::stage_progress;
-pub use views::stage_rate;
 pub use waits::phase_arises;

@@ -1,9 +1,11 @@
 // What a caller reads from a waiting session.
 ghost use mathlib.Core.Path.{_≡_};
 ghost use Rattle.pieces.specs.Pieces.{countOf};
-ghost use Rattle.host_model.specs.Views.{progressOf, stageProgress, stageRate};
+ghost use Rattle.host_model.specs.declared.plan.Stage.the-variants.{Asking};
+ghost use Rattle.host_model.specs.Views.{progressOf, stageProgress, messageRate};
 use host_model::LineRate;
 use host_model::Progress;
+use host_model::Rate;
 use host_model::Stage;
 
 // Packets accepted and in all.
@@ -39,16 +41,26 @@ fn counted(accepted: usize, total: usize) -> Progress
     }
 }
 
-// The rate that the line should have.
-pub fn stage_rate(stage: Stage) -> LineRate
-    ensures { λ r. ⌜ r ≡ stageRate stage ⌝ }
+// The rate that the line should have for a message that was resent so often.
+pub fn message_rate(stage: Stage, repeats: u32) -> LineRate
+    ensures { λ r. ⌜ r ≡ messageRate stage repeats ⌝ }
 {
     match stage {
         Stage::Text => LineRate::AsItWas,
-        Stage::Asking(_) => LineRate::AsItWas,
-        Stage::Declaring(rate) => LineRate::Agreed(rate),
-        Stage::Sending { rate, size, number } => LineRate::Agreed(rate),
-        Stage::Noticing { rate, size } => LineRate::Agreed(rate),
-        Stage::Restarting { rate, size } => LineRate::Agreed(rate),
+        Stage::Asking(rate) => asking_rate(rate, repeats),
+        Stage::Declaring(rate) => LineRate::At(rate),
+        Stage::Sending { rate, size, number } => LineRate::At(rate),
+        Stage::Noticing { rate, size } => LineRate::At(rate),
+        Stage::Restarting { rate, size } => LineRate::At(rate),
     }
+}
+
+// A module whose answer was lost has the rate already: every other repeat goes out at it.
+fn asking_rate(rate: Rate, repeats: u32) -> LineRate
+    ensures { λ r. ⌜ r ≡ messageRate (Asking rate) repeats ⌝ }
+{
+    if repeats % 2 == 1 {
+        return LineRate::At(rate);
+    }
+    LineRate::AsItWas
 }

@@ -85,7 +85,7 @@ fn alter(rng: &mut Rng, (long, numbers): &mut Fields) {
     numbers[which] = rng.near(numbers[which], &known);
 }
 
-fn some_record(rng: &mut Rng) -> Vec<u8> {
+pub fn some_record(rng: &mut Rng) -> Vec<u8> {
     let mut fields = genuine(rng);
     for _ in 0..rng.pick(&[0, 1, 1, 1, 2]) {
         alter(rng, &mut fields);
@@ -94,7 +94,7 @@ fn some_record(rng: &mut Rng) -> Vec<u8> {
 }
 
 /// The image that goes with a record, as far as there is one.
-fn lent<'a>(rng: &mut Rng, view: &View, pool: &'a [u8]) -> &'a [u8] {
+pub fn lent<'a>(rng: &mut Rng, view: &View, pool: &'a [u8]) -> &'a [u8] {
     let recorded = usize::try_from(view.image_length).unwrap_or(usize::MAX).min(pool.len());
     if rng.percent(3) {
         &pool[..rng.pick(&[0, 1, recorded.saturating_sub(1), (recorded + 1).min(pool.len())])]

@@ -2,7 +2,7 @@
 
 use super::rng::Rng;
 use super::tally::Tally;
-use super::{bench, host, host_forged, module, module_forged, reader, talk, ubf, wire};
+use super::{bench, caller, host, host_forged, module, module_forged, post, reader, talk, ubf, wire};
 use std::sync::atomic::{AtomicU64, AtomicUsize, Ordering};
 use std::sync::Mutex;
 use std::time::{Duration, Instant};
@@ -38,7 +38,7 @@ const ONCE: [Job; 10] = [
 const ONCE_LONG: [Job; 1] = [job("reader: all strings of 7", reader::longer_strings, 0)];
 
 /// Inputs made from a seed, a portion at a time.
-const RANDOM: [Job; 15] = [
+const RANDOM: [Job; 20] = [
     job("wire: random payloads", wire::random_payloads, 24),
     job("wire: damaged contents", wire::damaged_contents, 24),
     job("reader: damaged streams", reader::streams, 28),
@@ -54,6 +54,11 @@ const RANDOM: [Job; 15] = [
     job("host: forged records", host_forged::records, 60),
     job("host: neighbours of records", host_forged::neighbours, 40),
     job("host and module: whole loads", talk::loads, 16),
+    job("caller: runs", caller::runs, 12),
+    job("caller: forged records", caller::records, 12),
+    job("post: runs", post::runs, 6),
+    job("post: forged records", post::records, 12),
+    job("agreed rates", post::agreed_rates, 4),
 ];
 
 /// What a worker is to do next; none when all is done.

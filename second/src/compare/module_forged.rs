@@ -75,7 +75,7 @@ fn alter(rng: &mut Rng, (length, numbers): &mut Fields) {
     }
 }
 
-fn some_record(rng: &mut Rng) -> Vec<u8> {
+pub fn some_record(rng: &mut Rng) -> Vec<u8> {
     let mut fields = genuine(rng);
     for _ in 0..rng.pick(&[0, 1, 1, 1, 2]) {
         alter(rng, &mut fields);
@@ -84,7 +84,7 @@ fn some_record(rng: &mut Rng) -> Vec<u8> {
 }
 
 /// The flash that goes with a record, as far as there is one.
-fn lent_length(rng: &mut Rng, view: &View, longest: usize) -> usize {
+pub fn lent_length(rng: &mut Rng, view: &View, longest: usize) -> usize {
     let recorded = usize::try_from(view.flash_length).unwrap_or(usize::MAX).min(longest);
     if rng.percent(3) {
         rng.pick(&[0, 1, recorded.saturating_sub(1), recorded, longest])

@@ -105,8 +105,17 @@ pub fn short_contents(tally: &mut Tally, _rng: &mut Rng) {
 
 /// A good content, or one that is too long and otherwise good.
 pub fn content(rng: &mut Rng, command: u8, payload: &[u8]) -> Vec<u8> {
-    let length = (payload.len() + 3) as u16;
     let device = if rng.percent(95) { 0x01 } else { rng.byte() };
+    with_device(device, command, payload)
+}
+
+/// A content of our device.
+pub fn sealed(command: u8, payload: &[u8]) -> Vec<u8> {
+    with_device(0x01, command, payload)
+}
+
+fn with_device(device: u8, command: u8, payload: &[u8]) -> Vec<u8> {
+    let length = (payload.len() + 3) as u16;
     let mut content = length.to_le_bytes().to_vec();
     content.extend([device, command]);
     content.extend(payload);

@@ -143,6 +143,22 @@ fn ack_10_brings_three_repeats() {
 }
 
 #[test]
+fn odd_repeats_of_a_request_go_out_at_the_rate_asked_for() {
+    let mut bench = Bench::plain(4, 4);
+    assert_eq!(bench.session.line_rate(), None);
+    for rate in [Some(Rate::B115200), None, Some(Rate::B115200)] {
+        assert_eq!(bench.wait(1_000), Answer::Send(8));
+        assert_eq!(bench.session.line_rate(), rate);
+    }
+    // Refused: the next one is asked for at the rate that was.
+    bench.give(0x01, &[5, 1]);
+    assert_eq!((bench.session.line_rate(), bench.sent.clone()), (None, frame(0x01, &[4])));
+    bench.give(0x01, &[4, 0]);
+    bench.wait(1_000);
+    assert_eq!(bench.session.line_rate(), Some(Rate::B57600));
+}
+
+#[test]
 fn waiting_reaches_its_limit() {
     let mut bench = Bench::plain(4, 4);
     for _ in 0..3 {

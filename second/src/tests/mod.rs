@@ -1,5 +1,6 @@
 //! Worked cases: the bench examples of document 01 and each of its rules.
 
+mod ends;
 mod forged;
 mod host;
 mod module;

@@ -3,6 +3,7 @@ use borrow.Author.Tests.{lt-ltb, le-ltb}
 use mathlib.Core.Path.{sym}
 use Rattle.octets.specs.Choice.{cond-yes, cond-no}
 use Rattle.kept_reader.specs.Kept.{keptNew}
+use Rattle.kept_reader.specs.KeptLaws.{kept-over}
 use borrow.Author.Needs.{needs}
 use Rattle.kept_reader.proofs.new.Statement.{statement}
 use Rattle.kept_reader.proofs.new.Tie as tie
@@ -32,7 +33,7 @@ same-length c = search needs
 returns-2 : tie.Need-returns-2
 unfolding keptNew
 returns-2 c =
-    rw (c .before .before .keep .ensures, c .before .before .before .before .new .ensures)
+    rw (c .before .before .keep .ensures, kept-over _ _ (c .before .before .before .before .before .if1 .left), c .before .before .before .before .new .ensures)
     (sym (cond-no _ _ _ (le-ltb _ _ (c .before .before .before .before .before .if1 .left))))
 
 pub new-spec : {M : Type 1} → statement M

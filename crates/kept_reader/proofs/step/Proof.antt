@@ -3,6 +3,7 @@ use borrow.Author.Tests.{lt-ltb, le-ltb}
 use mathlib.Core.Path.{sym}
 use Rattle.octets.specs.Choice.{cond-yes, cond-no}
 use Rattle.kept_reader.specs.Kept.{keptStep}
+use Rattle.kept_reader.specs.KeptLaws.{kept-over}
 use borrow.Author.Needs.{needs}
 use Rattle.kept_reader.proofs.step.Statement.{statement}
 use Rattle.kept_reader.proofs.step.Tie as tie
@@ -11,7 +12,7 @@ use Rattle.kept_reader.proofs.step.Lts as lts
 use Rattle.kept_reader.proofs.command_of.Reads as command-of-reads
 use Rattle.kept_reader.proofs.count_of.Reads as count-of-reads
 use Rattle.kept_reader.proofs.keep.Reads as keep-reads
-use Rattle.kept_reader.proofs.load.Reads as load-reads
+use Rattle.kept_reader.proofs.reader_in.Reads as reader-in-reads
 use Rattle.kept_reader.proofs.number_of.Reads as number-of-reads
 use Rattle.reader.proofs.steps.Reader.step.Reads as step-reads
 
@@ -21,8 +22,8 @@ unfolding keptStep
 returns c = sym (cond-yes _ _ _ (lt-ltb _ _ (c .if1 .taken)))
 
 -- src/lib.rt:41:19
-load-requires : tie.Need-load-requires
-load-requires c κs = search needs
+reader-in-requires : tie.Need-reader-in-requires
+reader-in-requires c κs = search needs
 
 -- src/lib.rt:41:9
 step-requires : tie.Need-step-requires
@@ -57,8 +58,9 @@ returns-2 c =
       c .before .before .command-of .ensures,
       c .before .count-of .ensures,
       c .before .before .before .before .before .keep .ensures,
+      kept-over _ _ (c .before .before .before .before .before .before .before .before .before .before .if1 .left),
       c .before .before .before .before .before .before .before .step .ensures,
-      c .before .before .before .before .before .before .before .before .load .ensures,
+      c .before .before .before .before .before .before .before .before .reader-in .ensures,
     )
     (sym (cond-no _ _ _ (le-ltb _ _ (c .before .before .before .before .before .before .before .before .before .before .if1 .left))))
 
@@ -67,7 +69,7 @@ step-spec =
     tie.close
     (tie.spec
     returns
-    load-requires
+    reader-in-requires
     step-requires
     keep-requires
     command-of-requires

@@ -23,8 +23,8 @@ over-at-requires c κs = search needs
 enum-known-phase-2 : tie.Need-enum-known-phase-2
 enum-known-phase-2 c = search needs
 
-stage-rate-requires : tie.Need-stage-rate-requires
-stage-rate-requires c κs = search needs
+message-rate-requires : tie.Need-message-rate-requires
+message-rate-requires c κs = search needs
 
 over-with-requires : tie.Need-over-with-requires
 over-with-requires c κs = search needs
@@ -45,7 +45,7 @@ returns-3 c =
     let a = at .before .before .args in
     let told = at .phase2 .given in
     c .over-with .ensures
-    ∙ ap (λ (l : LineRate). session (a .image) (endedAtRate (told .0 .0 .plan .kind) l)) (c .before .stage-rate .ensures)
+    ∙ ap (λ (l : LineRate). session (a .image) (endedAtRate (told .0 .0 .plan .kind) l)) (c .before .message-rate .ensures)
     ∙ sym (ap (λ (p : Phase). session (a .image) (failedPhase p)) (told .1))
 
 pub failed-spec : {M : Type 1} → statement M
@@ -57,7 +57,7 @@ failed-spec =
     enum-known-phase
     over-at-requires
     enum-known-phase-2
-    stage-rate-requires
+    message-rate-requires
     over-with-requires
     returns
     returns-2

@@ -17,8 +17,8 @@ enum-known-phase c = search needs
 enum-known-phase-2 : tie.Need-enum-known-phase-2
 enum-known-phase-2 c = search needs
 
-stage-rate-requires : tie.Need-stage-rate-requires
-stage-rate-requires c κs = search needs
+message-rate-requires : tie.Need-message-rate-requires
+message-rate-requires c κs = search needs
 
 returns : tie.Need-returns
 returns c = sym (ap phaseRate (sym (c .before .before .taken .ensures) ∙ c .enum-told .given .1))
@@ -28,7 +28,7 @@ returns-2 c = sym (ap phaseRate (sym (c .before .before .before .taken .ensures)
 
 returns-3 : tie.Need-returns-3
 returns-3 c =
-    c .stage-rate .ensures ∙ sym (ap phaseRate (sym (c .before .before .before .before .taken .ensures) ∙ c .before .before .phase2 .given .1))
+    c .message-rate .ensures ∙ sym (ap phaseRate (sym (c .before .before .before .before .taken .ensures) ∙ c .before .before .phase2 .given .1))
 
 pub line-rate-spec : {M : Type 1} → statement M
 line-rate-spec =
@@ -38,7 +38,7 @@ line-rate-spec =
     enum-told
     enum-known-phase
     enum-known-phase-2
-    stage-rate-requires
+    message-rate-requires
     returns
     returns-2
     returns-3)
