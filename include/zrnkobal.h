@@ -62,7 +62,8 @@ extern "C" {
 #define ZRN_CALLER_BYTES (ZRN_CALLER_SESSION + ZRN_HOST_BYTES)
 
 /* A post, which is a module on a line that waits for the start text: a reader; how much of the start text has been heard (4 bytes),
- * frames dropped (8 bytes); a module's session. Read as a caller is; without a session that takes events it waits. */
+ * frames dropped (8 bytes); a module's session. Read as a caller is, a session that stands for none as a closed one over the flash length
+ * in it; the record of one that could not arise is left as it is and takes no events. Without a session that does the post waits. */
 #define ZRN_POST_SESSION (ZRN_READER_BYTES + 12)
 #define ZRN_POST_BYTES (ZRN_POST_SESSION + ZRN_MODULE_BYTES)
 
@@ -202,7 +203,9 @@ uint8_t zrn_caller_view(const uint8_t *state, size_t state_length, uint8_t *rate
 uint8_t zrn_post_new(uint8_t *state, size_t state_length);
 uint8_t zrn_post_open(uint8_t *state, size_t state_length, const uint8_t *flash, size_t flash_length);
 
-/* A byte has arrived, or milliseconds have passed. Answers as zrn_module_frame does; 2 for a short state, which is left as lent. */
+/* A byte has arrived, or milliseconds have passed. Answers as zrn_module_frame does; 2 for a short state, which is left as lent. The start
+ * text is answered where the reply buffer has 14 bytes for it; else nothing happens at all. Flash and reply buffer are looked at only where
+ * a byte completes a frame or the text, or time passes for an open session. */
 uint8_t zrn_post_hear(uint8_t *state, size_t state_length, uint8_t byte, uint8_t *flash, size_t flash_length, uint8_t *reply,
                       size_t reply_length, size_t *count);
 uint8_t zrn_post_wait(uint8_t *state, size_t state_length, uint32_t ms, uint8_t *flash, size_t flash_length, uint8_t *reply,
@@ -214,7 +217,7 @@ uint8_t zrn_post_wait(uint8_t *state, size_t state_length, uint32_t ms, uint8_t 
 uint8_t zrn_post_view(const uint8_t *state, size_t state_length, uint16_t *type, size_t *base, size_t *length, size_t *written,
                       size_t *dropped, bool *idle);
 
-/* The rate that these bytes, a reply of a post or a module, agree to: the module has it once they have left. 0 for any other reply. */
+/* The rate that these bytes, just the reply of a post or a module, agree to: the module has it once they have left. 0 for any others. */
 uint8_t zrn_rate_agreed(const uint8_t *reply, size_t reply_length);
 
 #ifdef __cplusplus

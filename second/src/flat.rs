@@ -332,6 +332,25 @@ pub(crate) fn decode_module(state: &[u8]) -> module::Session {
     session().unwrap_or(module::Session::closed(flash_length))
 }
 
+/// Whether these bytes are the record of a session, be it one that could arise or not: what its phase does not have is 0.
+pub(crate) fn is_module_record(state: &[u8]) -> bool {
+    let [phase, kind, length, size, number, written] = row(state, MODULE_ROW);
+    let known = u16::try_from(kind).ok().and_then(Kind::from_number).is_some();
+    state.len() >= MODULE_BYTES
+        && match phase {
+            0 | 1 => [kind, length, size, number, written] == [0; 5],
+            2 => known && [size, number, written] == [0; 3],
+            3 => known,
+            4 => known && number == 0,
+            _ => false,
+        }
+}
+
+/// The idle sum in a record; 0 in bytes that are none.
+pub(crate) fn module_idle(state: &[u8]) -> u32 {
+    if is_module_record(state) { get4(state, MODULE_IDLE) } else { 0 }
+}
+
 pub(crate) fn encode_module(session: &module::Session, state: &mut [u8]) {
     put8(state, MODULE_FLASH, session.flash_length);
     put4(state, MODULE_IDLE, session.idle);

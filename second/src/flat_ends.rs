@@ -157,15 +157,22 @@ pub fn post_wait(state: &mut [u8], ms: u32, flash: &mut [u8], reply: &mut [u8], 
     step_post(state, count, |post| post.wait(ms, flash, reply).map(|()| 0))
 }
 
-/// Steps a post and writes down what it then is, also where its bytes stood for none before.
+/// Steps a post and writes down what it then is, also where its bytes stood for none before. The record of a session that could not arise
+/// is left as it is, until another session is opened.
 fn step_post(state: &mut [u8], count: &mut usize, step: impl FnOnce(&mut Post) -> Result<usize, Refusal>) -> u8 {
     *count = 0;
     if state.len() < POST_BYTES {
         return Refusal::OutputTooShort.number();
     }
     let mut post = decode_post(state);
+    let before = post.session;
+    let record: [u8; MODULE_BYTES] = state[POST_SESSION..POST_BYTES].try_into().expect("as long as a record");
     let answer = step(&mut post);
     encode_post(&post, state);
+    let opened = !before.is_open() && answer.as_ref().is_ok_and(|&count| count > 0);
+    if post.session == before && !opened && is_module_record(&record) {
+        state[POST_SESSION..POST_BYTES].copy_from_slice(&record);
+    }
     written_or_nothing(answer, count)
 }
 
@@ -188,7 +195,7 @@ pub fn post_view(
         }
     };
     (*kind, *length, *written) = (number as u16, in_all as usize, so_far as usize);
-    (*dropped, *idle) = (post.dropped as usize, u8::from(post.session.idled_out()));
+    (*dropped, *idle) = (post.dropped as usize, u8::from(module_idle(behind(state, POST_SESSION)) > module::MAX_IDLE));
     phase as u8
 }
 

@@ -138,11 +138,6 @@ impl Session {
         self.phase != Phase::Closed
     }
 
-    /// Whether the session was closed by its idle sum.
-    pub fn idled_out(&self) -> bool {
-        !self.is_open() && self.idle > MAX_IDLE
-    }
-
     /// Whether the session's numbers can arise from an opening. A closed one has the sum of the frame or the time that closed it.
     pub fn could_arise(&self) -> bool {
         let lent = (1..=MAX_FLASH).contains(&self.flash_length);

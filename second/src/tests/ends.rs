@@ -213,10 +213,22 @@ fn what_stands_for_nothing_is_written_down() {
 
     let mut board = Board::new(8);
     board.hear(START_TEXT);
-    board.state[POST_SESSION + 8] = 1;
-    board.state[POST_SESSION + 12] = 0;
+    board.state[POST_SESSION + 12] = 5;
     board.wait(1);
     assert_eq!(board.state[POST_SESSION..], [[8, 0, 0, 0].as_slice(), &[0; 32]].concat());
+}
+
+#[test]
+fn a_session_that_could_not_arise_stays_until_another_is_opened() {
+    let mut board = Board::new(8);
+    board.hear(START_TEXT);
+    board.state[POST_SESSION + 8] = 1;
+    board.state[POST_SESSION + 12] = 0;
+    let before = board.state.clone();
+    board.wait(1);
+    assert_eq!(board.state, before);
+    board.hear(START_TEXT);
+    assert_eq!(board.state[POST_SESSION + 8..POST_SESSION + 16], [0, 0, 0, 0, 1, 0, 0, 0]);
 }
 
 #[test]
