@@ -36,14 +36,18 @@ flag-back false = refl
 abbrev wordsOf : Reader → List ℕ
 wordsOf r = lowHalf (r .count) ∷ flag (r .opened) ∷ flag (r .pending) ∷ []
 
+-- As many bytes as a record has.
+pub bytes-size : (r : Reader) → Whole r → length (bytesOf r) ≡ readerBytes
+unfolding bytesOf
+bytes-size r w = length-append (spelledAll (wordsOf r)) (r .store) ∙ rw (length-spelled-all (wordsOf r), w .size)
+
 module _ (r : Reader) (state : List ℕ) (w : Whole r) (room : readerBytes ≤ length state) where
   -- What follows the words.
   behind : List ℕ
   behind = r .store ++ drop (length (bytesOf r)) state
 
   bytes-long : length (bytesOf r) ≡ readerBytes
-  unfolding bytesOf
-  bytes-long = length-append (spelledAll (wordsOf r)) (r .store) ∙ rw (length-spelled-all (wordsOf r), w .size)
+  bytes-long = bytes-size r w
 
   long : length (over (bytesOf r) state) ≡ length state
   long = length-over (bytesOf r) state (rw bytes-long room)

@@ -3,3 +3,4 @@ pub mod Kept
 pub mod KeptLaws
 pub mod Promises
 pub mod KeptRun
+pub mod Beside
