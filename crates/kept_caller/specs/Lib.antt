@@ -1,3 +1,6 @@
--- What the contracts of this crate cite, and its laws.
+-- What the contracts of this crate cite, its laws, and what it promises.
 pub mod Kept
 pub mod KeptLaws
+pub mod Promises
+pub mod Back
+pub mod Calls

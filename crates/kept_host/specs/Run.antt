@@ -112,7 +112,7 @@ phase-real s Ended g r short wish = r
 phase-real s (EndedAt kind rate) g r short wish = r
 phase-real s (Waiting w) g r short wish = event-real s w (g .image) (g .output) r short wish (g .event) (g .bytes)
 
-step-real : (s : Session) (g : Given) → Real s → Real (leaves s g .session)
+pub step-real : (s : Session) (g : Given) → Real s → Real (leaves s g .session)
 unfolding stepOf
 step-real s g r =
     either-way RealLeft (eqb (length (g .image)) (s .image))
@@ -130,6 +130,11 @@ known-real (Is kind) w image output short wish =
     (λ _. sends-real _ _ _ output (ended-real (length image) short) (record { image-real = short; wish-real = wish }))
     (λ _. ended-real (length image) short)
 known-real Unknown w image output short wish = ended-real (length image) short
+
+pub opening-real : (number : ℕ) (w : Wishes) (image output : List ℕ) → length image < 2 ^ 64 → w .wish < 2 ^ 64
+    → Real (openingOf number w image output .session)
+unfolding openingOf
+opening-real number w image output short wish = known-real (kindOf number) w image output short wish
 
 -- ---- a step, and a run
 
@@ -183,15 +188,15 @@ same-read GoOn = (refl, refl)
 same-read Stop = (refl, refl)
 
 module _ (w : Wishes) where
-  wishes-known : wishesKnown (numberOfRate (w .first)) (startNumber (w .start)) (sameNumber (w .same)) ≡ true
+  pub wishes-known : wishesKnown (numberOfRate (w .first)) (startNumber (w .start)) (sameNumber (w .same)) ≡ true
   unfolding wishesKnown
   wishes-known =
       rw (rate-read (w .first) .1, rate-read (w .first) .2, start-read (w .start) .1, same-read (w .same) .1)
 
-  wishes-back : wishesIn (numberOfRate (w .first)) (w .wish) (startNumber (w .start)) (sameNumber (w .same)) ≡ w
+  pub wishes-back : wishesIn (numberOfRate (w .first)) (w .wish) (startNumber (w .start)) (sameNumber (w .same)) ≡ w
   wishes-back = rw (rate-read (w .first) .0, start-read (w .start) .0, same-read (w .same) .0)
 
-opened-same : (st : List ℕ) (number : ℕ) (w : Wishes) (image output : List ℕ) → recordBytes ≤ length st
+pub opened-same : (st : List ℕ) (number : ℕ) (w : Wishes) (image output : List ℕ) → recordBytes ≤ length st
     → keptOpened st number w image output ≡ openedAs (openingOf number w image output) st
 unfolding keptOpening openingBy
 opened-same st number w image output room =
@@ -200,11 +205,11 @@ opened-same st number w image output room =
     (cond-yes _ _ _ (wishes-known w) ∙ ap (λ (x : Wishes). openingOf number x image output) (wishes-back w))
 
 pub kept-run : KeptRun
-unfolding openingOf afterOf
+unfolding afterOf
 kept-run st number w image output gs room short wish =
     let s : Session = openingOf number w image output .session in
     let a : arises s ≡ true = reached-arises number w image output [] in
-    let r : Real s = known-real (kindOf number) w image output short wish in
+    let r : Real s = opening-real number w image output short wish in
     let begins = opened-same st number w image output room in
     record {
       opened-same = begins;

@@ -31,7 +31,7 @@ time-flash : (s : Session) (ms : ℕ) → timeStep s ms .session .flash ≡ s .f
 unfolding timeStep
 time-flash s ms = either-way (λ (r : Stepped). r .session .flash ≡ s .flash) (leb ms (longestIdle - s .idle)) (λ e. refl) (λ e. refl)
 
-step-flash : (s : Session) (g : Given) → nextOf s g .flash ≡ s .flash
+pub step-flash : (s : Session) (g : Given) → nextOf s g .flash ≡ s .flash
 step-flash s g = go (exchange s g .left) (step-of s g)
   where
     go : (x : Left) → Case s g x → x .session .flash ≡ s .flash
@@ -40,7 +40,7 @@ step-flash s g = go (exchange s g .left) (step-of s g)
     go x (waits t size ms ev e) = rw e (time-flash s ms)
     go x (hears t size command count ev e) = rw e
 
-opening-flash : (flash : List ℕ) → opened flash .flash ≡ length flash
+pub opening-flash : (flash : List ℕ) → opened flash .flash ≡ length flash
 unfolding openingOf
 opening-flash flash = either-way (λ (r : Stepped). r .session .flash ≡ length flash) (openable (length flash)) (λ e. refl) (λ e. refl)
 

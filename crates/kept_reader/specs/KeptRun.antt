@@ -16,7 +16,7 @@ use Rattle.flat.specs.Words.{spelledAll, lowHalf}
 use Rattle.flat.specs.WordsLaws.{length-spelled-all}
 use Rattle.flat.specs.Calls.{callsBy}
 use Rattle.flat.specs.Found.{ReadAt, read-all}
-use Rattle.reader.specs.Reader.{stepOf, payloadIn, numberIn, commandIn, countIn}
+use Rattle.reader.specs.Reader.{fresh, stepOf, payloadIn, numberIn, commandIn, countIn}
 use Rattle.reader_promises.specs.SeenLaws.{fresh-known, step-known}
 use Rattle.reader.specs.declared.steps.Reader.{Reader}
 use Rattle.kept_reader.specs.Kept.{readerBytes, storePlace, payloadPlace, flag, bytesOf, stands, readerIn}
@@ -96,11 +96,12 @@ module _ (r : Reader) (state : List ℕ) (w : Whole r) (room : readerBytes ≤ l
       cond-yes _ _ _ standing
       ∙ rw (store-back, count-back, opened-back, pending-back, flag-back (r .opened), flag-back (r .pending))
 
+pub fresh-whole : Whole fresh
+fresh-whole = let k = fresh-known in record { size = k .size; low = k .low }
+
 pub kept-fresh : KeptFresh
 unfolding keptNew
-kept-fresh state room =
-    let k = fresh-known in
-    (rw (le-ltb (length state) readerBytes room), record { size = k .size; low = k .low })
+kept-fresh state room = (rw (le-ltb (length state) readerBytes room), fresh-whole)
 
 pub kept-back : KeptBack
 kept-back r state w room = back r state w room
@@ -109,7 +110,7 @@ pub kept-payload : KeptPayload
 kept-payload r state n w room h = payload-back r state w room n h
 
 -- The reader after a step is as these calls leave it.
-step-whole : (r : Reader) (b : ℕ) → Whole r → Whole (stepOf r b .reader)
+pub step-whole : (r : Reader) (b : ℕ) → Whole r → Whole (stepOf r b .reader)
 step-whole r b w = let k = step-known r (w .size) b in record { size = k .size; low = k .low }
 
 -- One call.

@@ -68,7 +68,7 @@ frame-arises s command payload flash d t size (advances p number c x k e) =
 frame-arises s command payload flash d t size (repeats p number c x k same e) = rw e (anew-arises s (s .phase) t (takes-facts s t .1))
 
 -- Any step of a session that arises.
-step-arises : (s : Session) (g : Given) → arises s ≡ true → Bytes (g .payload) → arises (nextOf s g) ≡ true
+pub step-arises : (s : Session) (g : Given) → arises s ≡ true → Bytes (g .payload) → arises (nextOf s g) ≡ true
 step-arises s g a bytes = go (exchange s g .left) (step-of s g)
   where
     go : (x : Left) → Case s g x → arises (x .session) ≡ true

@@ -1,5 +1,6 @@
 -- A board that waits for the start text, and a host's end that counts.
 pub mod Post
+pub mod PostLaws
 pub mod Caller
 pub mod View
 pub mod Agreed

@@ -1,0 +1,55 @@
+-- What is promised of a caller that is kept as bytes, to be read without the proofs. Each statement is proved in the file named beside it.
+use Prim.Native.Nat.{ℕ, _^_, _≤_, _<_}
+use mathlib.Core.Bool.{true}
+use mathlib.Core.List.{List}
+use mathlib.Core.Path.{_≡_}
+use lib.ListN.{length}
+use Rattle.host.specs.Session.{arises}
+use Rattle.host.specs.Step.{Wishes, openingOf}
+use Rattle.host_model.specs.Stages.{numberOfRate}
+use Rattle.posts.specs.Caller.{callerOf, callerHears, callerWaits}
+use Rattle.posts.specs.declared.caller.Caller.{Caller}
+use Rattle.kept_reader.specs.Promises.{Whole}
+use Rattle.kept_host.specs.Kept.{startNumber, sameNumber, Opened}
+use Rattle.kept_host.specs.Promises.{Real}
+use Rattle.kept_caller.specs.Kept.{callerBytes, callerKept, callerIn, keptAs, keptHears, keptWaits, openedAs, keptOpening}
+
+-- A caller as these calls leave it: a reader with a store of 1,035 bytes, a session that can arise, counts as large as their places.
+pub record Keeps (c : Caller) : Type 0 where
+  pub whole : Whole (c .end .reader)
+  pub arisen : arises (c .end .session) ≡ true
+  pub real : Real (c .end .session)
+  pub seen-small : c .end .seen < 2 ^ 32
+  pub resent-small : c .resent < 2 ^ 64
+  pub dropped-small : c .dropped < 2 ^ 64
+
+-- Back.antt. Such a caller, put into bytes with room for it, is read there as it was; the buffer keeps its length.
+abbrev pub KeptBack : Type 0
+KeptBack =
+    (c : Caller) (st : List ℕ) → Keeps c → callerBytes ≤ length st
+    → (callerIn (callerKept c st) ≡ c) × (length (callerKept c st) ≡ length st)
+
+-- An opening of the bytes with these wishes.
+abbrev pub keptOpened : List ℕ → ℕ → Wishes → List ℕ → List ℕ → Opened
+keptOpened st number w image output =
+    keptOpening st number (numberOfRate (w .first)) (w .wish) (startNumber (w .start)) (sameNumber (w .same)) image output
+
+-- Calls.antt. Every opening in bytes with room leaves what the session's own leaves, and such a caller.
+abbrev pub KeptOpening : Type 0
+KeptOpening =
+    (st : List ℕ) (number : ℕ) (w : Wishes) (image output : List ℕ) → callerBytes ≤ length st → length image < 2 ^ 64 → w .wish < 2 ^ 64
+    → (keptOpened st number w image output ≡ openedAs (openingOf number w image output) st)
+    × Keeps (callerOf (openingOf number w image output .session))
+
+-- A call answers what the caller's own step does and leaves just that, and again such a caller.
+pub record SameCall (c : Caller) (st : List ℕ) : Type 0 where
+  pub hears-same : (byte : ℕ) (image output : List ℕ)
+      → keptHears (callerKept c st) byte image output ≡ keptAs (callerHears c byte image output) (callerKept c st)
+  pub hears-keeps : (byte : ℕ) (image output : List ℕ) → Keeps (callerHears c byte image output .caller)
+  pub waits-same : (ms : ℕ) (image output : List ℕ)
+      → keptWaits (callerKept c st) ms image output ≡ keptAs (callerWaits c ms image output) (callerKept c st)
+  pub waits-keeps : (ms : ℕ) (image output : List ℕ) → Keeps (callerWaits c ms image output .caller)
+
+-- Calls.antt. So from every opening, through any calls.
+abbrev pub KeptCall : Type 0
+KeptCall = (c : Caller) (st : List ℕ) → Keeps c → callerBytes ≤ length st → SameCall c st

@@ -1,0 +1,43 @@
+-- What the calls of both ends promise together, to be read without the proof.
+use Prim.Native.Nat.{_^_, _≤_, _<_, ℕ}
+use mathlib.Core.List.{List}
+use mathlib.Core.Path.{_≡_}
+use lib.ListN.{getD, length}
+use Rattle.kinds.specs.Kinds.{numberOf}
+use Rattle.kinds.specs.declared.Kind.{Kind}
+use Rattle.host.specs.Step.{Wishes}
+use Rattle.host_model.specs.declared.events.Answer.the-variants.{Done}
+use Rattle.posts.specs.Caller.{callerHears}
+use Rattle.posts.specs.declared.post.Post.{Post}
+use Rattle.line.specs.Promises.{Outside, Holds}
+use Rattle.kept_host.specs.Record.{restartingStage}
+use Rattle.kept_caller.specs.Kept.{callerBytes, callerIn, viewIn}
+use Rattle.kept_caller.specs.Promises.{keptOpened}
+use Rattle.kept_post.specs.Kept.{postBytes, postKept}
+use Rattle.kept_post.specs.Promises.{Keeps}
+use Rattle.kept_line.specs.Called.{Called, Call, caller-byte, MayCall, MayCalls, calledAll, begun}
+
+-- zrn_caller_view answers 6: a notice of State 0 has been taken.
+abbrev pub SaysAccepted : Called → Type 0
+SaysAccepted x = viewIn (x .caller) .stage ≡ restartingStage
+
+-- What is true wherever a run of calls has led, of the flash as it was at the host's opening and as it is now.
+pub record InFlashByCalls (kind : Kind) (image before : List ℕ) (x : Called) : Type 0 where
+  -- Whatever the line did, and even if the load fails: the flash keeps its length, and no byte outside the declared range has changed.
+  pub length-same : length (x .flash) ≡ length before
+  pub elsewhere : (i : ℕ) → Outside kind image i → getD (x .flash) i 0 ≡ getD before i 0
+  -- Once the view says 6, the declared range holds the image, now and after any further calls.
+  pub accepted : SaysAccepted x → (more : List Call) → MayCalls image x more → Holds kind image before (calledAll image x more .flash)
+  -- A call answers done only when the view said 6 before it.
+  pub done-accepted : (byte : ℕ) (output : List ℕ) → MayCall x (caller-byte byte output)
+      → callerHears (callerIn (x .caller)) byte image output .answer ≡ Done → SaysAccepted x
+
+-- L1 of the calls (Calls.antt). Open a host by zrn_caller_open in bytes with room, with any wishes over an image, lent again at every call; join it
+-- to a post in bytes with room: any reader, any session that can arise, over any flash. Let the line make any calls that it may.
+abbrev pub FileByCalls : Type 0
+FileByCalls =
+    (kind : Kind) (w : Wishes) (image output st : List ℕ) (p : Post) (pst flash : List ℕ) (calls : List Call)
+    → callerBytes ≤ length st → length image < 2 ^ 64 → w .wish < 2 ^ 64
+    → postBytes ≤ length pst → Keeps p → length flash < 2 ^ 64
+    → let start = begun (keptOpened st (numberOf kind) w image output) (postKept p pst) flash in
+    MayCalls image start calls → InFlashByCalls kind image flash (calledAll image start calls)

@@ -1,0 +1,61 @@
+-- A post is read from its bytes as it was.
+use Prim.Native.Nat.{ℕ, _+_, _*_, _-_, _≤_, _<_}
+use mathlib.Core.List.{List, [], _∷_}
+use mathlib.Core.Path.{_≡_, refl, ap, _∙_}
+use native.Mathlib.Omega.{arith}
+use lib.ListN.{length, drop, length-drop}
+use Rattle.octets.specs.Octets.{numberAt}
+use Rattle.flat.specs.Found.{Words, ReadAt, eight-back}
+use Rattle.posts.specs.declared.post.Post.{Post}
+use Rattle.kept_reader.specs.Beside.{besideOf, beside-length, beside-reader, beside-words, beside-record}
+use Rattle.kept_module.specs.Record.{recordBytes}
+use Rattle.kept_module.specs.Kept.{wordsOf, sessionIn}
+use Rattle.kept_module.specs.CallLaws.{words-count}
+use Rattle.kept_module.specs.KeptLaws as session
+use Rattle.kept_post.specs.Kept.{postBytes, sessionPlace, seenPlace, droppedPlace, countsOf, postKept, postIn}
+use Rattle.kept_post.specs.Promises.{Keeps, KeptBack}
+
+counts-small : (p : Post) → Words (countsOf p)
+counts-small p = (omega arith, (omega arith, (omega arith, tt)))
+
+module _ (p : Post) (st : List ℕ) (k : Keeps p) (room : postBytes ≤ length st) where
+  fits : sessionPlace + 4 * length (wordsOf (p .board .session)) ≤ length st
+  fits = rw (words-count (p .board .session)) (omega (arith, room))
+
+  all : List ℕ
+  all = besideOf (p .board .reader) (countsOf p) sessionPlace (wordsOf (p .board .session)) st
+
+  words : ReadAt all seenPlace (countsOf p)
+  unfolding all
+  words = beside-words (p .board .reader) (countsOf p) (wordsOf (p .board .session)) st sessionPlace (k .whole) (counts-small p) refl fits
+
+  seen-back : numberAt 4 all seenPlace ≡ p .seen
+  seen-back = omega (arith, words .0, k .seen-small)
+
+  dropped-back : numberAt 8 all droppedPlace ≡ p .dropped
+  dropped-back = eight-back all droppedPlace (p .dropped) (k .dropped-small) (words .1 .0) (words .1 .1 .0)
+
+  session-back : sessionIn (drop sessionPlace all) ≡ p .board .session
+  unfolding all
+  session-back =
+      let s = p .board .session in
+      let long : recordBytes ≤ length (drop sessionPlace st) = rw (length-drop sessionPlace st) (omega (arith, room)) in
+      ap sessionIn (beside-record (p .board .reader) (countsOf p) (wordsOf s) st sessionPlace (k .whole) (counts-small p) refl fits)
+      ∙ session.kept-back s (drop sessionPlace st) (k .arisen) (k .flash-small) long .1
+
+  back : postIn all ≡ p
+  unfolding postIn all
+  back =
+      rw (
+        beside-reader (p .board .reader) (countsOf p) (wordsOf (p .board .session)) st sessionPlace (k .whole) (counts-small p) refl fits,
+        seen-back,
+        dropped-back,
+        session-back,
+      )
+
+pub kept-back : KeptBack
+unfolding postKept all
+kept-back p st k room = (
+  back p st k room,
+  beside-length (p .board .reader) (countsOf p) (wordsOf (p .board .session)) st sessionPlace (k .whole) (counts-small p) refl (fits p st k room),
+)
