@@ -7,7 +7,7 @@ use native.Mathlib.Omega.{arith}
 use borrow.Author.Tests.{ltb-false}
 use lib.Dec.{eqb, ltb}
 use lib.ListN.{length, take}
-use Rattle.octets.specs.Octets.{laid, partOf}
+use Rattle.octets.specs.Octets.{Bytes, laid, partOf}
 use Rattle.octets.specs.PartLaws.{part-laid}
 use Rattle.octets.specs.Choice.{either-way}
 use Rattle.kinds.specs.Kinds.{numberOf}
@@ -20,7 +20,7 @@ use Rattle.reader_promises.specs.Runs as reader-runs
 use Rattle.module_promises.specs.Runs.{heardIn}
 use Rattle.module_promises.specs.RunsLaws.{heard-nothing}
 use Rattle.module_model.specs.Answers as module-answers
-use Rattle.host_model.specs.Events as host-events
+use Rattle.host_model.specs.Events.{loadDone}
 use Rattle.host.specs.Step.{Wishes, openingOf}
 use Rattle.host.specs.declared.session.Session.{Session}
 use Rattle.host_model.specs.declared.events.Answer.the-variants.{Done}
@@ -55,6 +55,7 @@ use Rattle.kept_post.specs.Back as post-back
 use Rattle.kept_post.specs.Calls as post-calls
 use Rattle.kept_line.specs.Called.{Called, Call, post-byte, post-time, caller-byte, caller-time, MayCall, postCalled, callerCalled, called, calledAll, MayCalls, begun}
 use Rattle.kept_line.specs.Promises.{SaysAccepted, FileByCalls}
+use Rattle.kept_line.specs.Done.{hears-tells}
 
 -- The ends that the bytes keep, on one line.
 abbrev wiredIn : Called → Wired
@@ -342,6 +343,19 @@ stage-noticed s h = go (s .phase) refl h
 noticed-stage : (s : Session) → HasNotice s → stageNumber (s .phase) ≡ restartingStage
 noticed-stage s n = rw (n .phase-is, n .stage-is)
 
+-- ---- done by its number
+
+says-done : (image : List ℕ) (x : Called) → Good x → (byte : ℕ) (output : List ℕ) → MayCall x (caller-byte byte output)
+    → keptHears (x .caller) byte image output .answer ≡ loadDone → hostHears (callerIn (x .caller) .end) byte image output .answer ≡ Done
+unfolding calledStep
+says-done image x g byte output may d =
+    let own = kept-call (g .c) (g .st) (g .caller-keeps) (g .caller-room) in
+    let same = ap (λ (s : List ℕ). keptHears s byte image output) (g .caller-is) ∙ own .hears-same byte image output in
+    let may-here : Sent (x .from-board) (completes (g .c .end .reader) byte) = rw (caller-in x g) at may in
+    let bytes : (f : Frame) → List·Memᴰ f (completes (g .c .end .reader) byte) → Bytes (f .payload) = λ f m. may-here f m .1 in
+    rw (caller-in x g)
+    (hears-tells (g .c .end) byte image output (g .caller-keeps .arisen) bytes (sym (ap (λ (k : Kept). k .answer) same) ∙ d))
+
 -- ---- L1 of the calls
 
 pub file-by-calls : FileByCalls
@@ -380,5 +394,6 @@ file-by-calls kind w image output st p pst flash calls room short wish post-room
           let further = run-led image flash x flash-short on (run .good) more allowed in
           rw (ap (λ (w : Wired). w .flash) (further .leads))
           (i .noticed (stage-noticed (callerIn (x .caller) .end .session) says) (further .feeds) (further .may));
-      done-accepted = λ byte out allowed d. noticed-stage (callerIn (x .caller) .end .session) (i .done-noticed byte out allowed d);
+      done-accepted = λ byte out allowed d.
+          noticed-stage (callerIn (x .caller) .end .session) (i .done-noticed byte out allowed (says-done image x (run .good) byte out allowed d));
     }

@@ -6,12 +6,11 @@ use lib.ListN.{getD, length}
 use Rattle.kinds.specs.Kinds.{numberOf}
 use Rattle.kinds.specs.declared.Kind.{Kind}
 use Rattle.host.specs.Step.{Wishes}
-use Rattle.host_model.specs.declared.events.Answer.the-variants.{Done}
-use Rattle.posts.specs.Caller.{callerHears}
+use Rattle.host_model.specs.Events.{loadDone}
 use Rattle.posts.specs.declared.post.Post.{Post}
 use Rattle.line.specs.Promises.{Outside, Holds}
 use Rattle.kept_host.specs.Record.{restartingStage}
-use Rattle.kept_caller.specs.Kept.{callerBytes, callerIn, viewIn}
+use Rattle.kept_caller.specs.Kept.{callerBytes, viewIn, keptHears}
 use Rattle.kept_caller.specs.Promises.{keptOpened}
 use Rattle.kept_post.specs.Kept.{postBytes, postKept}
 use Rattle.kept_post.specs.Promises.{Keeps}
@@ -30,7 +29,7 @@ pub record InFlashByCalls (kind : Kind) (image before : List ℕ) (x : Called) :
   pub accepted : SaysAccepted x → (more : List Call) → MayCalls image x more → Holds kind image before (calledAll image x more .flash)
   -- A call answers done only when the view said 6 before it.
   pub done-accepted : (byte : ℕ) (output : List ℕ) → MayCall x (caller-byte byte output)
-      → callerHears (callerIn (x .caller)) byte image output .answer ≡ Done → SaysAccepted x
+      → keptHears (x .caller) byte image output .answer ≡ loadDone → SaysAccepted x
 
 -- L1 of the calls (Calls.antt). Open a host by zrn_caller_open in bytes with room, with any wishes over an image, lent again at every call; join it
 -- to a post in bytes with room: any reader, any session that can arise, over any flash. Let the line make any calls that it may.
