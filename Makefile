@@ -12,7 +12,8 @@ demo: loader
 	@tools/demo
 
 loader:
-	@tools/archive exports
+	@tools/prove exports
+	@tools/archive exports >target/archive.log 2>&1 || { cat target/archive.log; exit 1; }
 	@$(MAKE) -s target/zrnkobal
 
 target/zrnkobal: $(wildcard loader/*) include/zrnkobal.h $(ARCHIVE)
