@@ -21,7 +21,7 @@ static const char help[] =
     "exit status: 0 all blocks loaded\n"
     "             1 refused, by the module or for want of an answer\n"
     "             2 usage, or a faulty file: nothing is sent\n"
-    "             3 the port\n"
+    "             3 the port; 130 Ctrl-C\n"
     "\n"
     "  zrnkobal load /dev/ttyUSB0 app.ubf\n";
 

@@ -4,3 +4,4 @@ pub mod KeptLaws
 pub mod Promises
 pub mod Back
 pub mod Calls
+pub mod Wrong

@@ -23,11 +23,14 @@ pub record Keeps (c : Caller) : Type 0 where
   pub resent-small : c .resent < 2 ^ 64
   pub dropped-small : c .dropped < 2 ^ 64
 
--- Back.antt. Such a caller, put into bytes with room for it, is read there as it was; the buffer keeps its length.
+-- Such a caller, put into bytes with room for it, is read there as it was; the buffer keeps its length. Stated of a way to keep one, proved of ours
+-- (Back.antt), refuted for wrong ones (Wrong.antt).
+abbrev pub KeptBackOf : (Caller → List ℕ → List ℕ) → Type 0
+KeptBackOf kept =
+    (c : Caller) (st : List ℕ) → Keeps c → callerBytes ≤ length st → (callerIn (kept c st) ≡ c) × (length (kept c st) ≡ length st)
+
 abbrev pub KeptBack : Type 0
-KeptBack =
-    (c : Caller) (st : List ℕ) → Keeps c → callerBytes ≤ length st
-    → (callerIn (callerKept c st) ≡ c) × (length (callerKept c st) ≡ length st)
+KeptBack = KeptBackOf callerKept
 
 -- An opening of the bytes with these wishes.
 abbrev pub keptOpened : List ℕ → ℕ → Wishes → List ℕ → List ℕ → Opened

@@ -22,10 +22,14 @@ pub record Keeps (p : Post) : Type 0 where
   pub seen-small : p .seen < 2 ^ 32
   pub dropped-small : p .dropped < 2 ^ 64
 
--- Back.antt. Such a post, put into bytes with room for it, is read there as it was; the buffer keeps its length.
+-- Such a post, put into bytes with room for it, is read there as it was; the buffer keeps its length. Stated of a way to keep one, proved of ours
+-- (Back.antt), refuted for wrong ones (Wrong.antt).
+abbrev pub KeptBackOf : (Post → List ℕ → List ℕ) → Type 0
+KeptBackOf kept =
+    (p : Post) (st : List ℕ) → Keeps p → postBytes ≤ length st → (postIn (kept p st) ≡ p) × (length (kept p st) ≡ length st)
+
 abbrev pub KeptBack : Type 0
-KeptBack =
-    (p : Post) (st : List ℕ) → Keeps p → postBytes ≤ length st → (postIn (postKept p st) ≡ p) × (length (postKept p st) ≡ length st)
+KeptBack = KeptBackOf postKept
 
 -- Calls.antt. In bytes with room a post that waits is made, and one with a session open over a flash, and each is such a post.
 abbrev pub KeptMade : Type 0
