@@ -3,7 +3,7 @@ use Prim.Native.Nat.{ℕ, _+_, _*_, _-_, _≤_, _<_}
 use mathlib.Core.List.{List, [], _∷_}
 use mathlib.Core.Path.{_≡_, refl, sym, ap, _∙_}
 use native.Mathlib.Omega.{arith}
-use lib.ListN.{length, drop, length-drop}
+use lib.ListN.{length, drop}
 use Rattle.octets.specs.Octets.{numberAt}
 use Rattle.flat.specs.Words.{lowHalf, highHalf, recorded}
 use Rattle.flat.specs.Found.{Words, ReadAt, eight-back}
@@ -12,7 +12,7 @@ use Rattle.host_end.specs.HostEnd.{endWith}
 use Rattle.posts.specs.Caller.{callerWith}
 use Rattle.posts.specs.declared.caller.Caller.{Caller}
 use Rattle.kept_reader.specs.Kept.{readerBytes}
-use Rattle.kept_reader.specs.Beside.{besideOf, beside-length, beside-reader, beside-words, beside-record}
+use Rattle.kept_reader.specs.Beside.{besideOf, BesideBack, beside-back}
 use Rattle.kept_host.specs.Record.{recordBytes}
 use Rattle.kept_host.specs.Kept.{wordsOf, sessionIn}
 use Rattle.kept_host.specs.KeptLaws.{words-count}
@@ -30,9 +30,13 @@ module _ (c : Caller) (st : List ℕ) (k : Keeps c) (room : callerBytes ≤ leng
   all : List ℕ
   all = besideOf (c .end .reader) (countsOf c) sessionPlace (wordsOf (c .end .session)) st
 
+  found : BesideBack (c .end .reader) (countsOf c) (wordsOf (c .end .session)) st sessionPlace
+  found =
+      beside-back (c .end .reader) (countsOf c) (wordsOf (c .end .session)) st sessionPlace (k .whole) (counts-small c) refl fits
+
   words : ReadAt all seenPlace (countsOf c)
   unfolding all
-  words = beside-words (c .end .reader) (countsOf c) (wordsOf (c .end .session)) st sessionPlace (k .whole) (counts-small c) refl fits
+  words = found .words
 
   seen-back : numberAt 4 all seenPlace ≡ c .end .seen
   seen-back = omega (arith, words .0, k .seen-small)
@@ -47,24 +51,13 @@ module _ (c : Caller) (st : List ℕ) (k : Keeps c) (room : callerBytes ≤ leng
   unfolding all
   session-back =
       let s = c .end .session in
-      let long : recordBytes ≤ length (drop sessionPlace st) = rw (length-drop sessionPlace st) (omega (arith, room)) in
-      ap sessionIn (beside-record (c .end .reader) (countsOf c) (wordsOf s) st sessionPlace (k .whole) (counts-small c) refl fits)
-      ∙ session.kept-back s (drop sessionPlace st) (k .arisen) (k .real) long .1
+      let long : recordBytes ≤ length (drop sessionPlace st) = omega (arith, found .room, words-count s) in
+      ap sessionIn (found .behind) ∙ session.kept-back s (drop sessionPlace st) (k .arisen) (k .real) long .1
 
   back : callerIn all ≡ c
   unfolding callerIn all
-  back =
-      rw (
-        beside-reader (c .end .reader) (countsOf c) (wordsOf (c .end .session)) st sessionPlace (k .whole) (counts-small c) refl fits,
-        seen-back,
-        resent-back,
-        dropped-back,
-        session-back,
-      )
+  back = rw (found .reader, seen-back, resent-back, dropped-back, session-back)
 
 pub kept-back : KeptBack
 unfolding callerKept all
-kept-back c st k room = (
-  back c st k room,
-  beside-length (c .end .reader) (countsOf c) (wordsOf (c .end .session)) st sessionPlace (k .whole) (counts-small c) refl (fits c st k room),
-)
+kept-back c st k room = (back c st k room, found c st k room .long)

@@ -60,18 +60,45 @@ callerCalled x k = record {
   from-board = x .from-board;
 }
 
+-- The calls that a promise speaks of: those of the post, those of the caller, and the stage that its view answers.
+pub record Ends : Type 0 where
+  pub post-hears : List ℕ → ℕ → List ℕ → List ℕ → module-kept.Kept
+  pub post-waits : List ℕ → ℕ → List ℕ → List ℕ → module-kept.Kept
+  pub caller-hears : List ℕ → ℕ → List ℕ → List ℕ → host-kept.Kept
+  pub caller-waits : List ℕ → ℕ → List ℕ → List ℕ → host-kept.Kept
+  pub stage : List ℕ → ℕ
+
+-- Ours.
+abbrev pub ours : Ends
+ours = record {
+  post-hears = post.keptHears;
+  post-waits = post.keptWaits;
+  caller-hears = caller.keptHears;
+  caller-waits = caller.keptWaits;
+  stage = λ st. caller.viewIn st .stage;
+}
+
+abbrev pub calledBy : Ends → List ℕ → Called → Call → Called
+calledBy e image x (post-byte byte reply) = postCalled x (e .post-hears (x .post) byte (x .flash) reply)
+calledBy e image x (post-time ms reply) = postCalled x (e .post-waits (x .post) ms (x .flash) reply)
+calledBy e image x (caller-byte byte output) = callerCalled x (e .caller-hears (x .caller) byte image output)
+calledBy e image x (caller-time ms output) = callerCalled x (e .caller-waits (x .caller) ms image output)
+
 abbrev pub called : List ℕ → Called → Call → Called
-called image x (post-byte byte reply) = postCalled x (post.keptHears (x .post) byte (x .flash) reply)
-called image x (post-time ms reply) = postCalled x (post.keptWaits (x .post) ms (x .flash) reply)
-called image x (caller-byte byte output) = callerCalled x (caller.keptHears (x .caller) byte image output)
-called image x (caller-time ms output) = callerCalled x (caller.keptWaits (x .caller) ms image output)
+called = calledBy ours
 
 -- A run of them, each allowed where it comes.
+abbrev pub allBy : Ends → List ℕ → Called → List Call → Called
+allBy e image = afterEach (calledBy e image)
+
 abbrev pub calledAll : List ℕ → Called → List Call → Called
-calledAll image = afterEach (called image)
+calledAll = allBy ours
+
+abbrev pub MayBy : Ends → List ℕ → Called → List Call → Type 0
+MayBy e image = EachMay MayCall (calledBy e image)
 
 abbrev pub MayCalls : List ℕ → Called → List Call → Type 0
-MayCalls image = EachMay MayCall (called image)
+MayCalls = MayBy ours
 
 -- What an opening by zrn_caller_open joins to any post and any flash. The first message, if it is a frame, has been sent.
 abbrev pub begun : host-kept.Opened → List ℕ → List ℕ → Called

@@ -54,7 +54,7 @@ use Rattle.kept_post.specs.Promises as post
 use Rattle.kept_post.specs.Back as post-back
 use Rattle.kept_post.specs.Calls as post-calls
 use Rattle.kept_line.specs.Called.{Called, Call, post-byte, post-time, caller-byte, caller-time, MayCall, postCalled, callerCalled, called, calledAll, MayCalls, begun}
-use Rattle.kept_line.specs.Promises.{SaysAccepted, FileByCalls}
+use Rattle.kept_line.specs.Promises.{FileByCalls}
 use Rattle.kept_line.specs.Done.{hears-tells}
 
 -- The ends that the bytes keep, on one line.
@@ -134,40 +134,24 @@ module _ (image : List ℕ) (x : Called) (g : Good x) (k : Kept) (l : HostLeft) 
         } in
         ap (λ (c : Caller). whole c k) (caller-in (callerCalled x k) caller-good) ∙ ap (whole (calledOf (g .c) l .caller)) same
 
+    -- So the call is one feed of the host's end.
+    caller-led : (f : Feed) → MayFeed (wiredIn x) f → hostFed (wiredIn x) l ≡ fed image (wiredIn x) f → Led image x (callerCalled x k)
+    caller-led f may e = record { feeds = f ∷ []; may = (may, tt); leads = caller-leads ∙ e; good = caller-good }
+
 caller-hears : (image : List ℕ) (x : Called) (byte : ℕ) (output : List ℕ) → Good x → MayCall x (caller-byte byte output)
     → Led image x (called image x (caller-byte byte output))
 caller-hears image x byte output g may =
     let own = kept-call (g .c) (g .st) (g .caller-keeps) (g .caller-room) in
-    let l : HostLeft = hostHears (g .c .end) byte image output in
-    let k : Kept = keptHears (x .caller) byte image output in
-    let same : k ≡ keptAs (calledOf (g .c) l) (callerKept (g .c) (g .st)) =
-    ap (λ (s : List ℕ). keptHears s byte image output) (g .caller-is) ∙ own .hears-same byte image output in
-    let keeps = own .hears-keeps byte image output in
-    record {
-      feeds = host-byte byte output ∷ [];
-      may = (may, tt);
-      leads =
-          caller-leads image x g k l same keeps
-          ∙ ap (λ (c : Caller). hostFed (wiredIn x) (hostHears (c .end) byte image output)) (sym (caller-in x g));
-      good = caller-good image x g k l same keeps;
-    }
+    let same = ap (λ (s : List ℕ). keptHears s byte image output) (g .caller-is) ∙ own .hears-same byte image output in
+    caller-led image x g _ (hostHears (g .c .end) byte image output) same (own .hears-keeps byte image output) (host-byte byte output) may
+    (ap (λ (c : Caller). hostFed (wiredIn x) (hostHears (c .end) byte image output)) (sym (caller-in x g)))
 
 caller-waits : (image : List ℕ) (x : Called) (ms : ℕ) (output : List ℕ) → Good x → Led image x (called image x (caller-time ms output))
 caller-waits image x ms output g =
     let own = kept-call (g .c) (g .st) (g .caller-keeps) (g .caller-room) in
-    let l : HostLeft = hostWaits (g .c .end) ms image output in
-    let k : Kept = keptWaits (x .caller) ms image output in
-    let same : k ≡ keptAs (calledOf (g .c) l) (callerKept (g .c) (g .st)) =
-    ap (λ (s : List ℕ). keptWaits s ms image output) (g .caller-is) ∙ own .waits-same ms image output in
-    let keeps = own .waits-keeps ms image output in
-    record {
-      feeds = host-time ms output ∷ [];
-      may = (tt, tt);
-      leads =
-          caller-leads image x g k l same keeps
-          ∙ ap (λ (c : Caller). hostFed (wiredIn x) (hostWaits (c .end) ms image output)) (sym (caller-in x g));
-      good = caller-good image x g k l same keeps;
-    }
+    let same = ap (λ (s : List ℕ). keptWaits s ms image output) (g .caller-is) ∙ own .waits-same ms image output in
+    caller-led image x g _ (hostWaits (g .c .end) ms image output) same (own .waits-keeps ms image output) (host-time ms output) tt
+    (ap (λ (c : Caller). hostFed (wiredIn x) (hostWaits (c .end) ms image output)) (sym (caller-in x g)))
 
 -- ---- a call of the post
 

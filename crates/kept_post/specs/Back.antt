@@ -3,11 +3,11 @@ use Prim.Native.Nat.{ℕ, _+_, _*_, _-_, _≤_, _<_}
 use mathlib.Core.List.{List, [], _∷_}
 use mathlib.Core.Path.{_≡_, refl, ap, _∙_}
 use native.Mathlib.Omega.{arith}
-use lib.ListN.{length, drop, length-drop}
+use lib.ListN.{length, drop}
 use Rattle.octets.specs.Octets.{numberAt}
 use Rattle.flat.specs.Found.{Words, ReadAt, eight-back}
 use Rattle.posts.specs.declared.post.Post.{Post}
-use Rattle.kept_reader.specs.Beside.{besideOf, beside-length, beside-reader, beside-words, beside-record}
+use Rattle.kept_reader.specs.Beside.{besideOf, BesideBack, beside-back}
 use Rattle.kept_module.specs.Record.{recordBytes}
 use Rattle.kept_module.specs.Kept.{wordsOf, sessionIn}
 use Rattle.kept_module.specs.CallLaws.{words-count}
@@ -25,9 +25,13 @@ module _ (p : Post) (st : List ℕ) (k : Keeps p) (room : postBytes ≤ length s
   all : List ℕ
   all = besideOf (p .board .reader) (countsOf p) sessionPlace (wordsOf (p .board .session)) st
 
+  found : BesideBack (p .board .reader) (countsOf p) (wordsOf (p .board .session)) st sessionPlace
+  found =
+      beside-back (p .board .reader) (countsOf p) (wordsOf (p .board .session)) st sessionPlace (k .whole) (counts-small p) refl fits
+
   words : ReadAt all seenPlace (countsOf p)
   unfolding all
-  words = beside-words (p .board .reader) (countsOf p) (wordsOf (p .board .session)) st sessionPlace (k .whole) (counts-small p) refl fits
+  words = found .words
 
   seen-back : numberAt 4 all seenPlace ≡ p .seen
   seen-back = omega (arith, words .0, k .seen-small)
@@ -39,23 +43,13 @@ module _ (p : Post) (st : List ℕ) (k : Keeps p) (room : postBytes ≤ length s
   unfolding all
   session-back =
       let s = p .board .session in
-      let long : recordBytes ≤ length (drop sessionPlace st) = rw (length-drop sessionPlace st) (omega (arith, room)) in
-      ap sessionIn (beside-record (p .board .reader) (countsOf p) (wordsOf s) st sessionPlace (k .whole) (counts-small p) refl fits)
-      ∙ session.kept-back s (drop sessionPlace st) (k .arisen) (k .flash-small) long .1
+      let long : recordBytes ≤ length (drop sessionPlace st) = omega (arith, found .room, words-count s) in
+      ap sessionIn (found .behind) ∙ session.kept-back s (drop sessionPlace st) (k .arisen) (k .flash-small) long .1
 
   back : postIn all ≡ p
   unfolding postIn all
-  back =
-      rw (
-        beside-reader (p .board .reader) (countsOf p) (wordsOf (p .board .session)) st sessionPlace (k .whole) (counts-small p) refl fits,
-        seen-back,
-        dropped-back,
-        session-back,
-      )
+  back = rw (found .reader, seen-back, dropped-back, session-back)
 
 pub kept-back : KeptBack
 unfolding postKept all
-kept-back p st k room = (
-  back p st k room,
-  beside-length (p .board .reader) (countsOf p) (wordsOf (p .board .session)) st sessionPlace (k .whole) (counts-small p) refl (fits p st k room),
-)
+kept-back p st k room = (back p st k room, found p st k room .long)

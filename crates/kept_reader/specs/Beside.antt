@@ -20,6 +20,14 @@ use Rattle.kept_reader.specs.KeptRun.{kept-back, bytes-size}
 abbrev pub besideOf : Reader → List ℕ → ℕ → List ℕ → List ℕ → List ℕ
 besideOf r ws n vs st = laid (laid (readerKept r st) readerBytes (spelledAll ws)) n (spelledAll vs)
 
+-- What is found there again: the buffer has its length, the reader and the words are read, and from n on stands the record of the further ones.
+pub record BesideBack (r : Reader) (ws vs st : List ℕ) (n : ℕ) : Type 0 where
+  pub long : length (besideOf r ws n vs st) ≡ length st
+  pub reader : readerIn (besideOf r ws n vs st) ≡ r
+  pub words : ReadAt (besideOf r ws n vs st) readerBytes ws
+  pub behind : drop n (besideOf r ws n vs st) ≡ recorded vs (drop n st)
+  pub room : 4 * length vs ≤ length (drop n st)
+
 module _ (r : Reader) (ws vs st : List ℕ) (n : ℕ) (w : Whole r) (small : Words ws) (place : readerBytes + 4 * length ws ≡ n)
     (room : n + 4 * length vs ≤ length st)
   where
@@ -64,14 +72,14 @@ module _ (r : Reader) (ws vs st : List ℕ) (n : ℕ) (w : Whole r) (small : Wor
     all-parts = all-over ∙ append-assoc (front ++ mid) last _
 
     -- The buffer keeps its length,
-    pub beside-length : length (besideOf r ws n vs st) ≡ length st
+    beside-length : length (besideOf r ws n vs st) ≡ length st
     beside-length =
         ap length all-over
         ∙ length-over ((front ++ mid) ++ last) st
         (rw (length-append (front ++ mid) last, both-size, last-size) room)
 
     -- the reader is read again,
-    pub beside-reader : readerIn (besideOf r ws n vs st) ≡ r
+    beside-reader : readerIn (besideOf r ws n vs st) ≡ r
     unfolding over front
     beside-reader =
         let x : List ℕ = front ++ (mid ++ rest) in
@@ -81,14 +89,14 @@ module _ (r : Reader) (ws vs st : List ℕ) (n : ℕ) (w : Whole r) (small : Wor
         ap readerIn (parts ∙ sym same) ∙ kept-back r x w (omega (arith, long, place, room))
 
     -- so are the words,
-    pub beside-words : ReadAt (besideOf r ws n vs st) readerBytes ws
+    beside-words : ReadAt (besideOf r ws n vs st) readerBytes ws
     unfolding mid
     beside-words =
         read-all ws (besideOf r ws n vs st) rest readerBytes small
         (ap (drop readerBytes) (all-parts ∙ append-assoc front mid rest) ∙ drop-at front (mid ++ rest) readerBytes front-size)
 
     -- and from the place n on stands the record of the further ones.
-    pub beside-record : drop n (besideOf r ws n vs st) ≡ recorded vs (drop n st)
+    beside-record : drop n (besideOf r ws n vs st) ≡ recorded vs (drop n st)
     unfolding rest over last
     beside-record =
         let k : length ((front ++ mid) ++ last) ≡ n + length last = length-append (front ++ mid) last ∙ omega (arith, both-size) in
@@ -97,3 +105,12 @@ module _ (r : Reader) (ws vs st : List ℕ) (n : ℕ) (w : Whole r) (small : Wor
         ∙ ap (λ (i : ℕ). last ++ drop i st) k
         ∙ ap (λ (l : List ℕ). last ++ l) (sym (drop-drop (length last) n st))
         ∙ sym (recorded-over vs (drop n st) fits)
+
+    pub beside-back : BesideBack r ws vs st n
+    beside-back = record {
+      long = beside-length;
+      reader = beside-reader;
+      words = beside-words;
+      behind = beside-record;
+      room = rw (length-drop n st) (omega (arith, room));
+    }
