@@ -99,6 +99,9 @@ size_t zrn_reader_payload(const uint8_t *state, size_t state_length, size_t coun
 
 /* ---- UBF files */
 
+/* Whether there is such a type, and the first address of its images in the flash. */
+bool zrn_type_address(uint16_t type, uint32_t *address);
+
 /* Reads the block at the front of some bytes. ZRN_FOUND and its numbers, or a refusal from 4 to 10. */
 uint8_t zrn_ubf_read(const uint8_t *block, size_t block_length, uint16_t *type, uint32_t *length, uint32_t *start, uint32_t *check);
 
@@ -194,6 +197,10 @@ uint8_t zrn_caller_wait(uint8_t *state, size_t state_length, uint32_t ms, const 
  * zrn_host_line_rate, the packets of zrn_host_progress, and what was resent and dropped since the opening. */
 uint8_t zrn_caller_view(const uint8_t *state, size_t state_length, uint8_t *rate, size_t *accepted, size_t *total, size_t *resent,
                         size_t *dropped);
+
+/* The wish that suits a line of so many bits a second: the largest piece, 1 to 1,024 bytes, whose packet, nothing escaped, leaves in half the
+ * time for an answer. Where not even one byte does: 1. */
+size_t zrn_piece_for(uint32_t baud);
 
 /* ---- A post: the module fed bytes as they come from a line. It waits for the start text, answers it and opens a session; after a
  * restart, or when its idle sum has closed the session, it waits again. */

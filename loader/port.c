@@ -11,31 +11,30 @@
 
 #include "loader.h"
 
-#define TURN_MS 5         /* how long a read waits for bytes */
-#define STUCK_MS 5000     /* how long a port may take no byte */
-#define SETTLE_US 20000   /* a moment for adapters that drain too early, and for both ends at a new rate */
-
+#define TURN_MS 5        /* how long a read waits for bytes */
+#define STUCK_US 5000000 /* how long a port may take no byte */
+#define SETTLE_US 20000  /* a moment for adapters that drain too early, and for both ends at a new rate */
 #define VANISHED "the port has vanished: check the plug, then load again"
+#define IN_USE "in use by another program"
+#define NOT_ALLOWED "no permission; are you in the group that owns the port?"
 
-static const struct {
-    long baud;
-    speed_t speed;
-} rates[] = {{4800, B4800}, {9600, B9600}, {19200, B19200}, {38400, B38400}, {57600, B57600}, {115200, B115200}};
+static const long bauds[] = {4800, 9600, 19200, 38400, 57600, 115200};
+static const speed_t speeds[] = {B4800, B9600, B19200, B38400, B57600, B115200};
 
 volatile sig_atomic_t caught;
 
 uint8_t rate_number(long baud) {
     for (uint8_t i = 0; i < 6; i++)
-        if (rates[i].baud == baud) return i;
-    return NO_RATE;
+        if (bauds[i] == baud) return i;
+    exit(fail(WRONG, "a rate is 4800, 9600, 19200, 38400, 57600 or 115200, not %ld", baud));
 }
 
 long rate_baud(uint8_t number) {
-    return rates[number].baud;
+    return bauds[number];
 }
 
 speed_t rate_speed(long baud) {
-    return rates[rate_number(baud)].speed;
+    return speeds[rate_number(baud)];
 }
 
 int64_t rate_us(long baud, size_t bytes) {
@@ -70,13 +69,13 @@ static _Noreturn void broken(struct port *port, const char *what) {
 /* Two programs on one port would spoil each other's load. Root is not stopped by TIOCEXCL, so a lock stands beside it. */
 void port_open(struct port *port, const char *name, long baud) {
     *port = (struct port){.name = name, .fd = open(name, O_RDWR | O_NOCTTY | O_NONBLOCK | O_CLOEXEC)};
-    if (port->fd < 0 && errno == EBUSY) exit(fail(NO_PORT, "%s: in use by another program", name));
-    if (port->fd < 0 && errno == EACCES) exit(fail(NO_PORT, "%s: no permission; are you in the group that owns the port?", name));
-    if (port->fd < 0) exit(fail(NO_PORT, "%s: can't be opened: %s", name, strerror(errno)));
-    if (!isatty(port->fd)) exit(fail(NO_PORT, "%s: not a serial port", name));
-    if (flock(port->fd, LOCK_EX | LOCK_NB) != 0) exit(fail(NO_PORT, "%s: in use by another program", name));
+    const char *why = NULL;
+    if (port->fd < 0) why = errno == EBUSY ? IN_USE : errno == EACCES ? NOT_ALLOWED : strerror(errno);
+    else if (!isatty(port->fd)) why = "not a serial port";
+    else if (flock(port->fd, LOCK_EX | LOCK_NB) != 0) why = IN_USE;
+    else if (tcgetattr(port->fd, &port->old) != 0) why = strerror(errno);
+    if (why != NULL) exit(fail(NO_PORT, "%s: %s", name, why));
     ioctl(port->fd, TIOCEXCL);
-    if (tcgetattr(port->fd, &port->old) != 0) exit(fail(NO_PORT, "%s: can't be read: %s", name, strerror(errno)));
     port_rate(port, baud);
     tcflush(port->fd, TCIFLUSH);
 }
@@ -98,21 +97,16 @@ void port_rate(struct port *port, long baud) {
     port->baud = baud;
 }
 
-/* Waits until the port takes bytes again. */
-static void wait_room(struct port *port, int64_t since) {
-    struct pollfd room = {.fd = port->fd, .events = POLLOUT};
-    if (errno != EAGAIN && errno != EINTR) broken(port, VANISHED);
-    if (clock_us() - since > STUCK_MS * 1000) broken(port, "the port takes no bytes");
-    poll(&room, 1, TURN_MS);
-}
-
 /* Sends all bytes. They have left when the system says so, and not before their bits can have: some adapters drain too early. */
 void port_send(struct port *port, const uint8_t *bytes, size_t count) {
+    struct pollfd room = {.fd = port->fd, .events = POLLOUT};
     int64_t begun = clock_us(), start = clock_later(begun, port->clear);
     for (size_t sent = 0; sent < count;) {
         ssize_t n = write(port->fd, bytes + sent, count - sent);
-        if (n < 0) wait_room(port, begun);
-        else sent += (size_t)n;
+        if (n >= 0) sent += (size_t)n;
+        else if (errno != EAGAIN && errno != EINTR) broken(port, VANISHED);
+        else if (clock_us() - begun > STUCK_US) broken(port, "the port takes no bytes");
+        else poll(&room, 1, TURN_MS);
     }
     while (tcdrain(port->fd) != 0)
         if (errno != EINTR) broken(port, VANISHED);
@@ -125,9 +119,8 @@ size_t port_hear(struct port *port, uint8_t *bytes, size_t room, int64_t *when) 
     poll(&ready, 1, TURN_MS);
     *when = clock_us();
     ssize_t n = read(port->fd, bytes, room);
-    if (n > 0) return (size_t)n;
-    if (n == 0 || (errno != EAGAIN && errno != EINTR)) broken(port, VANISHED);
-    return 0;
+    if (n == 0 || (n < 0 && errno != EAGAIN && errno != EINTR)) broken(port, VANISHED);
+    return n > 0 ? (size_t)n : 0;
 }
 
 /* Gives the port back as it was, once all has left. */

@@ -27,7 +27,6 @@ NOTHING, WRITTEN, FRAME, DROPPED, DONE, FOUND, PAST, UNKNOWN = 0, 100, 101, 102,
 READER_BYTES, MODULE_BYTES, HOST_BYTES, CALLER_BYTES, POST_BYTES = 1047, 36, 56, 1123, 1095  # the records of the header
 MESSAGE = 2072  # more than any message or reply takes
 BAUD = {0: None, 1: 9600, 2: 19200, 3: 38400, 4: 57600, 5: 115200}  # rates by number; 0: the rate that the line had before the load
-ADDRESSES = {1: 0x8000, 2: 0x0000, 3: 0x3E000}  # where the image of each type goes
 
 # ---- Every call of the header. read and write: a buffer and its length; a star: a number that comes back.
 
@@ -40,6 +39,7 @@ u8 escape_original(u8 byte)
 answer reader_new(write state)
 answer reader_step(write state, u8 byte, u8* command, size* count)
 size reader_payload(read state, size count, size* place)
+bool type_address(u16 type, u32* address)
 answer ubf_read(read block, u16* type, u32* length, u32* start, u32* check)
 answer ubf_block_at(read file, size n, u16* type, u32* length, u32* start, u32* check, size* place, size* count)
 size ubf_size(u32 start, u32 length)
@@ -66,6 +66,7 @@ answer caller_open(write state, u16 type, read image, u8 first, size wish, u8 st
 answer caller_hear(write state, u8 byte, read image, write out, size* count, u8* passed)
 answer caller_wait(write state, u32 ms, read image, write out, size* count, u8* passed)
 u8 caller_view(read state, u8* rate, size* accepted, size* total, size* resent, size* dropped)
+size piece_for(u32 baud)
 answer post_new(write state)
 answer post_open(write state, read flash)
 answer post_hear(write state, u8 byte, write flash, write reply, size* count)
@@ -270,6 +271,12 @@ class Reader:
 Block = collections.namedtuple("Block", "type address start check image model version name date place")
 
 
+def address_of(type):
+    """Where the images of a type begin in the flash; None if there is no such type."""
+    known, address = _call("type_address", type)
+    return address if known else None
+
+
 def blocks(file):
     """The blocks of a UBF file, one after another; Refused, with its place, at the first faulty one. The image is a part of the file, no
     copy; the texts are bytes, without the zeros that fill their field."""
@@ -284,7 +291,7 @@ def _blocks(file):
         own = file[place:]
         image = _part(own, "ubf_image", start, length)
         texts = [bytes(_part(own, "ubf_" + name)).rstrip(b"\0") for name in ("model", "version", "file_name", "date")]
-        yield Block(kind, ADDRESSES[kind], start, check, image, *texts, place)
+        yield Block(kind, address_of(kind), start, check, image, *texts, place)
 
 
 def _part(block, name, *numbers):
@@ -294,7 +301,7 @@ def _part(block, name, *numbers):
 
 def block(type, image, start=208, model=b"", version=b"", name=b"", date=b"", address=None):
     """A UBF block as bytes. The address is the type's own if none is given."""
-    fields = [type, ADDRESSES.get(type, 0) if address is None else address, start, model, version, name, date, image]
+    fields = [type, (address_of(type) or 0) if address is None else address, start, model, version, name, date, image]
     try:
         _call("ubf_write", *fields, bytearray())
     except Refused as refusal:  # 2: the fields are good, there is no room yet
@@ -358,6 +365,11 @@ class Caller:
     line_rate = property(lambda self: self.view.rate, doc="The rate that the line should have now, 1 to 5; 0: as it was before the load.")
     resent = property(lambda self: self.view.resent, doc="Messages resent since the opening.")
     dropped = property(lambda self: self.view.dropped, doc="Frames dropped since the opening.")
+
+
+def piece_for(baud):
+    """The wish that suits a line of so many bits a second: its packets leave in half the time for an answer."""
+    return _call("piece_for", baud)
 
 
 def load(block, send, receive, type=None, first=5, wish=1024, start=True, same=True, progress=None, clock=time.monotonic):

@@ -44,6 +44,8 @@ pub struct Calls {
     pub post_wait: fn(&mut [u8], u32, &mut [u8], &mut [u8], &mut usize) -> u8,
     pub post_view: fn(&[u8], &mut u16, &mut usize, &mut usize, &mut usize, &mut usize, &mut u8) -> u8,
     pub rate_agreed: fn(&[u8]) -> u8,
+    pub type_address: fn(u16, &mut u32) -> u8,
+    pub piece_for: fn(u32) -> usize,
 }
 
 pub type HostOpen = fn(&mut [u8], u16, &[u8], u8, usize, u8, u8, &mut [u8], &mut usize) -> u8;
@@ -90,6 +92,8 @@ macro_rules! table {
             post_wait: $side::post_wait,
             post_view: $side::post_view,
             rate_agreed: $side::rate_agreed,
+            type_address: $side::type_address,
+            piece_for: $side::piece_for,
         }
     };
 }

@@ -3,6 +3,7 @@
 use crate::ends::{self, Caller, Post};
 use crate::flat::*;
 use crate::host::{self, Rate};
+use crate::kind::{self, Kind};
 use crate::module::{self, Phase};
 use crate::reader::Reader;
 use crate::refusal::Refusal;
@@ -201,4 +202,14 @@ pub fn post_view(
 
 pub fn rate_agreed(reply: &[u8]) -> u8 {
     ends::rate_agreed(reply).unwrap_or(0)
+}
+
+pub fn type_address(kind: u16, address: &mut u32) -> u8 {
+    let kind = Kind::from_number(kind);
+    *address = kind.map_or(0, Kind::base);
+    u8::from(kind.is_some())
+}
+
+pub fn piece_for(baud: u32) -> usize {
+    kind::piece_for(baud) as usize
 }

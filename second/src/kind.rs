@@ -44,6 +44,13 @@ impl Kind {
     }
 }
 
+/// The largest piece whose packet, nothing escaped, is on a line of so many bits a second for at most 500 ms of the 1,000 that an answer may
+/// take: head, Length (2), device, command, Total (2), PkNo (2), PkSize (2), check and tail stand beside the piece. One byte where none is.
+pub fn piece_for(baud: u32) -> u32 {
+    let bits = |piece: u32| u64::from(piece + 13) * 10;
+    (1..=MAX_PIECE).rev().find(|&piece| bits(piece) * 1_000 <= 500 * u64::from(baud)).unwrap_or(1)
+}
+
 /// The largest image: "over 262,143" is too long.
 pub const MAX_IMAGE: u64 = 262_143;
 

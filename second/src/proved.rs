@@ -217,6 +217,8 @@ mod c {
             idle: *mut u8,
         ) -> u8;
         pub fn zrn_rate_agreed(reply: *const u8, reply_n: usize) -> u8;
+        pub fn zrn_type_address(kind: u16, address: *mut u32) -> u8;
+        pub fn zrn_piece_for(baud: u32) -> usize;
     }
 }
 
@@ -617,4 +619,12 @@ pub fn post_view(
 
 pub fn rate_agreed(reply: &[u8]) -> u8 {
     unsafe { c::zrn_rate_agreed(reply.as_ptr(), reply.len()) }
+}
+
+pub fn type_address(kind: u16, address: &mut u32) -> u8 {
+    unsafe { c::zrn_type_address(kind, address) }
+}
+
+pub fn piece_for(baud: u32) -> usize {
+    unsafe { c::zrn_piece_for(baud) }
 }

@@ -1,9 +1,13 @@
 -- Answers as C is given them: the number and the values of each case, as they stand with its enum, beside one another.
 use Prim.Native.Nat.{ℕ}
+use mathlib.Core.Bool.{Bool, true, false}
 use mathlib.Core.List.{List}
 use mathlib.Core.Path.{_≡_, refl}
 use lib.ListN.{length}
 use Rattle.refusals.specs.Written.{Out, numberIn, countIn}
+use Rattle.kinds.specs.Kinds.{baseOf}
+use Rattle.kinds.specs.declared.Known.{Known}
+use Rattle.kinds.specs.declared.Known.the-variants.{Is, Unknown}
 use Rattle.ubf_model.specs.Answers.{Told, blockTold, noneTold, foundTold, nthTold}
 use Rattle.ubf_model.specs.declared.block.Block.{Block}
 use Rattle.ubf_model.specs.declared.block.Found.{Found}
@@ -27,6 +31,15 @@ pub record Stretch : Type 0 where
 
 abbrev pub stretchOf : ℕ → List ℕ → Stretch
 stretchOf place part = record { count = length part; place = place }
+
+-- The flash address of a type's images, if there is such a type.
+pub record AddressFlat : Type 0 where
+  pub known : Bool
+  pub address : ℕ
+
+abbrev pub addressFlat : Known → AddressFlat
+addressFlat (Is kind) = record { known = true; address = baseOf kind }
+addressFlat Unknown = record { known = false; address = 0 }
 
 -- What is told of blocks, as the struct that the calls fill.
 abbrev pub flatOf : Told → Answered

@@ -1,5 +1,6 @@
 // A host on a line, fed bytes, kept by its caller as bytes.
 ghost use mathlib.Core.Path.{_≡_};
+ghost use Rattle.posts.specs.Piece.{pieceFor};
 ghost use Rattle.kept_host.specs.Kept.{opened, kept};
 ghost use Rattle.kept_caller.specs.Kept.{keptOpening, keptHears, keptWaits, seenAs, viewIn};
 
@@ -64,4 +65,11 @@ pub extern "C" fn zrn_caller_view(
         ≡ viewIn (now (state .entry)) ⌝ }
 {
     kept_caller::view(state, rate, accepted, total, resent, dropped)
+}
+
+#[no_mangle]
+pub extern "C" fn zrn_piece_for(baud: u32) -> usize
+    ensures { λ r. ⌜ r ≡ pieceFor baud ⌝ }
+{
+    posts::piece_for(baud)
 }

@@ -2,12 +2,14 @@
 ghost use mathlib.Core.Path.{_≡_};
 ghost use Prim.Native.Nat.{_+_};
 ghost use Rattle.octets.specs.Octets.{partOf};
+ghost use Rattle.kinds.specs.Kinds.{kindOf};
 ghost use Rattle.ubf_model.specs.Block.{modelPlace, versionPlace, namePlace, datePlace, modelIn, versionIn, nameIn, dateIn, blockOf};
 ghost use Rattle.ubf_model.specs.Pack.{gathered, packOf};
 ghost use Rattle.ubf_model.specs.Walk.{blockAt};
-ghost use Rattle.exports.specs.Flat.{writtenFlat, stretchOf, withBlock, withoutBlock, foundFlat, nthFlat};
+ghost use Rattle.exports.specs.Flat.{writtenFlat, stretchOf, withBlock, withoutBlock, foundFlat, nthFlat, addressFlat};
 use crate::frames::count_of;
 use crate::frames::number_of;
+use kinds::Known;
 use ubf::Block;
 use ubf::Found;
 use ubf::Nth;
@@ -74,6 +76,21 @@ fn without_block(answer: u8, place: usize, count: usize) -> Answered
         check: 0,
         place: place,
         count: count,
+    }
+}
+
+#[no_mangle]
+pub extern "C" fn zrn_type_address(kind: u16, address: &mut u32) -> bool
+    ensures { λ r. ⌜ record { known = r; address = now (address .exit) } ≡ addressFlat (kindOf kind) ⌝ }
+{
+    *address = 0;
+    let known = kinds::kind_of(kind);
+    match known {
+        Known::Is(own) => {
+            *address = kinds::base_of(own);
+            true
+        }
+        Known::Unknown => false,
     }
 }
 

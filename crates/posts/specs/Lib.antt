@@ -5,3 +5,5 @@ pub mod Caller
 pub mod View
 pub mod Agreed
 pub mod AgreedLaws
+pub mod Piece
+pub mod PieceLaws

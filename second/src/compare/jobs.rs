@@ -2,7 +2,7 @@
 
 use super::rng::Rng;
 use super::tally::Tally;
-use super::{bench, caller, host, host_forged, module, module_forged, post, reader, talk, ubf, wire};
+use super::{bench, caller, host, host_forged, module, module_forged, numbers, post, reader, talk, ubf, wire};
 use std::sync::atomic::{AtomicU64, AtomicUsize, Ordering};
 use std::sync::Mutex;
 use std::time::{Duration, Instant};
@@ -21,7 +21,7 @@ const fn job(kind: &'static str, run: fn(&mut Tally, &mut Rng), quick: u64) -> J
 }
 
 /// Inputs that depend on no seed, or hardly; done once.
-const ONCE: [Job; 10] = [
+const ONCE: [Job; 11] = [
     job("bench examples", bench::examples, 1),
     job("wire: special payloads, every room", wire::special_payloads, 1),
     job("wire: short contents", wire::short_contents, 1),
@@ -32,6 +32,7 @@ const ONCE: [Job; 10] = [
     job("ubf: longest images", ubf::long_images, 1),
     job("module: clean transfers", module::clean_transfers, 1),
     job("host: openings", host::openings, 1),
+    job("types and rates", numbers::types_and_rates, 1),
 ];
 
 /// Done once in a long run, in addition.

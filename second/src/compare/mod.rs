@@ -7,6 +7,7 @@ pub mod host_forged;
 pub mod jobs;
 pub mod module;
 pub mod module_forged;
+pub mod numbers;
 pub mod post;
 pub mod reader;
 pub mod rng;

@@ -263,3 +263,16 @@ fn agreed_rates_and_the_restart_frame() {
     assert_eq!(flat::restart_write(&mut out, &mut count), flat::WRITTEN);
     assert_eq!(out[..count], hex("DB 03 00 01 06 04 DE"));
 }
+
+#[test]
+fn addresses_of_types_and_pieces_for_rates() {
+    let mut address = 9;
+    for (kind, base) in [(1, 0x8000), (2, 0), (3, 0x3E000)] {
+        assert_eq!((flat::type_address(kind, &mut address), address), (1, base));
+    }
+    assert_eq!((flat::type_address(4, &mut address), address), (0, 0));
+    for (baud, piece) in [(0, 1), (279, 1), (299, 1), (300, 2), (4_800, 227), (9_600, 467), (19_200, 947), (20_739, 1_023)] {
+        assert_eq!(flat::piece_for(baud), piece);
+    }
+    assert_eq!([20_740, 38_400, 115_200, u32::MAX].map(flat::piece_for), [1_024; 4]);
+}
