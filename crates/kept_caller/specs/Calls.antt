@@ -34,7 +34,7 @@ use Rattle.kept_host.specs.Promises.{Real}
 use Rattle.kept_host.specs.Run.{step-real, opening-real, wishes-known, wishes-back}
 use Rattle.kept_host.specs.Kept.{openingBy}
 use Rattle.kept_caller.specs.Kept.{callerBytes, callerKept, keptAs, keptHears, keptWaits, openedAs, keptOpening}
-use Rattle.kept_caller.specs.Promises.{Keeps, SameCall, KeptOpening, KeptCall}
+use Rattle.kept_caller.specs.Promises.{Keeps, KeptOpening, KeptCall}
 use Rattle.kept_caller.specs.Back.{kept-back}
 
 -- ---- the end after a byte or a time

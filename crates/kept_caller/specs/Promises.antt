@@ -10,7 +10,7 @@ use Rattle.host_model.specs.Stages.{numberOfRate}
 use Rattle.posts.specs.Caller.{callerOf, callerHears, callerWaits}
 use Rattle.posts.specs.declared.caller.Caller.{Caller}
 use Rattle.kept_reader.specs.Promises.{Whole}
-use Rattle.kept_host.specs.Kept.{startNumber, sameNumber, Opened}
+use Rattle.kept_host.specs.Kept.{startNumber, sameNumber, Kept, Opened}
 use Rattle.kept_host.specs.Promises.{Real}
 use Rattle.kept_caller.specs.Kept.{callerBytes, callerKept, callerIn, keptAs, keptHears, keptWaits, openedAs, keptOpening}
 
@@ -32,27 +32,44 @@ KeptBackOf kept =
 abbrev pub KeptBack : Type 0
 KeptBack = KeptBackOf callerKept
 
--- An opening of the bytes with these wishes.
-abbrev pub keptOpened : List ℕ → ℕ → Wishes → List ℕ → List ℕ → Opened
-keptOpened st number w image output =
-    keptOpening st number (numberOfRate (w .first)) (w .wish) (startNumber (w .start)) (sameNumber (w .same)) image output
+-- Calls over bytes: an opening by its numbers, and a byte or milliseconds.
+abbrev pub Opens : Type 0
+Opens = List ℕ → ℕ → ℕ → ℕ → ℕ → ℕ → List ℕ → List ℕ → Opened
 
--- Calls.antt. Every opening in bytes with room leaves what the session's own leaves, and such a caller.
-abbrev pub KeptOpening : Type 0
-KeptOpening =
+abbrev pub Moves : Type 0
+Moves = List ℕ → ℕ → List ℕ → List ℕ → Kept
+
+-- An opening of the bytes with these wishes.
+abbrev pub openedBy : Opens → List ℕ → ℕ → Wishes → List ℕ → List ℕ → Opened
+openedBy opens st number w image output =
+    opens st number (numberOfRate (w .first)) (w .wish) (startNumber (w .start)) (sameNumber (w .same)) image output
+
+abbrev pub keptOpened : List ℕ → ℕ → Wishes → List ℕ → List ℕ → Opened
+keptOpened = openedBy keptOpening
+
+-- Every opening in bytes with room leaves what the session's own leaves, and such a caller. Stated of an opening, proved of ours (Calls.antt),
+-- refuted for wrong ones (Wrong.antt).
+abbrev pub KeptOpeningOf : Opens → Type 0
+KeptOpeningOf opens =
     (st : List ℕ) (number : ℕ) (w : Wishes) (image output : List ℕ) → callerBytes ≤ length st → length image < 2 ^ 64 → w .wish < 2 ^ 64
-    → (keptOpened st number w image output ≡ openedAs (openingOf number w image output) st)
+    → (openedBy opens st number w image output ≡ openedAs (openingOf number w image output) st)
     × Keeps (callerOf (openingOf number w image output .session))
 
+abbrev pub KeptOpening : Type 0
+KeptOpening = KeptOpeningOf keptOpening
+
 -- A call answers what the caller's own step does and leaves just that, and again such a caller.
-pub record SameCall (c : Caller) (st : List ℕ) : Type 0 where
+pub record SameCall (hears waits : Moves) (c : Caller) (st : List ℕ) : Type 0 where
   pub hears-same : (byte : ℕ) (image output : List ℕ)
-      → keptHears (callerKept c st) byte image output ≡ keptAs (callerHears c byte image output) (callerKept c st)
+      → hears (callerKept c st) byte image output ≡ keptAs (callerHears c byte image output) (callerKept c st)
   pub hears-keeps : (byte : ℕ) (image output : List ℕ) → Keeps (callerHears c byte image output .caller)
   pub waits-same : (ms : ℕ) (image output : List ℕ)
-      → keptWaits (callerKept c st) ms image output ≡ keptAs (callerWaits c ms image output) (callerKept c st)
+      → waits (callerKept c st) ms image output ≡ keptAs (callerWaits c ms image output) (callerKept c st)
   pub waits-keeps : (ms : ℕ) (image output : List ℕ) → Keeps (callerWaits c ms image output .caller)
 
--- Calls.antt. So from every opening, through any calls.
+-- So from every opening, through any calls. Stated of two calls, proved of ours (Calls.antt), refuted for wrong ones (Wrong.antt).
+abbrev pub KeptCallOf : Moves → Moves → Type 0
+KeptCallOf hears waits = (c : Caller) (st : List ℕ) → Keeps c → callerBytes ≤ length st → SameCall hears waits c st
+
 abbrev pub KeptCall : Type 0
-KeptCall = (c : Caller) (st : List ℕ) → Keeps c → callerBytes ≤ length st → SameCall c st
+KeptCall = KeptCallOf keptHears keptWaits

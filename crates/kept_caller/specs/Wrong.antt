@@ -1,23 +1,40 @@
--- Wrong ways to keep a caller, and a proof for each that the promise fails of it, by one caller and a buffer of zeros.
+-- Wrong ways to keep a caller, to open one and to call it, and a proof for each that the promise fails of it, by one caller or opening and
+-- a buffer of zeros.
 use Prim.Native.Nat.{ℕ, _^_, _≤_, _<_}
-use mathlib.Core.Bool.{true}
-use mathlib.Core.List.{List}
-use mathlib.Core.Path.{_≡_, refl, ap}
+use mathlib.Core.List.{List, [], _∷_}
+use mathlib.Core.Path.{_≡_, refl, sym, ap, _∙_}
 use native.Mathlib.Omega.{arith}
 use lib.ListN.{length, replicate, length-replicate}
 use Rattle.octets.specs.Octets.{laid, over, numberAt, little, spelled}
 use Rattle.flat.specs.Words.{spelledAll}
-use Rattle.host.specs.Session.{arises}
-use Rattle.host.specs.Step.{endedOf}
+use Rattle.kinds.specs.Kinds.{kindOf, fitsFile}
+use Rattle.kinds.specs.declared.Kind.the-variants.{Navigation}
+use Rattle.reader.specs.Reader as reader
 use Rattle.reader.specs.Reader.{fresh}
-use Rattle.host_end.specs.HostEnd.{endWith}
-use Rattle.posts.specs.Caller.{callerWith}
+use Rattle.reader.specs.Moves as moves
+use Rattle.host_model.specs.Events.{numberIn, countIn}
+use Rattle.host_model.specs.Nexts.{timeNext}
+use Rattle.host_model.specs.Waits.{wait, waitFits}
+use Rattle.host_model.specs.declared.plan.Rate.the-variants.{R9600}
+use Rattle.host_model.specs.declared.plan.Start.the-variants.{WithText}
+use Rattle.host_model.specs.declared.plan.Same.the-variants.{GoOn}
+use Rattle.host_model.specs.declared.plan.Stage.the-variants.{Text}
+use Rattle.host_model.specs.declared.waits.Phase.{Phase}
+use Rattle.host_model.specs.declared.waits.Phase.the-variants.{Ended, EndedAt, Waiting}
+use Rattle.host.specs.Session.{session, arises}
+use Rattle.host.specs.Step.{Wishes, endedOf, planOf, stepOf, openingOf}
+use Rattle.host_end.specs.Text as text
+use Rattle.host_end.specs.HostEnd.{endWith, lineHeard, hostHears, hostWaits}
+use Rattle.posts.specs.Caller.{callerWith, callerOf, calledStep, callerHears, callerWaits}
 use Rattle.posts.specs.declared.caller.Caller.{Caller}
 use Rattle.kept_reader.specs.Kept.{readerKept, bytesOf}
 use Rattle.kept_reader.specs.KeptRun.{fresh-whole}
-use Rattle.kept_host.specs.Kept.{wordsOf}
-use Rattle.kept_caller.specs.Kept.{callerBytes, seenPlace, sessionPlace, countsOf, callerIn}
-use Rattle.kept_caller.specs.Promises.{Keeps, KeptBackOf}
+use Rattle.kept_host.specs.Kept.{wordsOf, Kept, kept, Opened, opened, wishesKnown, openingBy}
+use Rattle.kept_caller.specs.Kept.{callerBytes, sessionPlace, countsOf, callerKept, callerIn, keptHears, keptWaits}
+use Rattle.kept_caller.specs.Promises.{Keeps, KeptBackOf, Opens, Moves, KeptOpeningOf, KeptCallOf}
+use Rattle.kept_caller.specs.Back.{kept-back}
+
+-- ---- ways to keep a caller
 
 -- Three messages were resent, five frames dropped.
 busy : Caller
@@ -62,3 +79,109 @@ pub shifts-refuted : KeptBackOf shifts → ⊥
 unfolding busy zeros shifts callerIn readerKept bytesOf laid over spelledAll spelled wordsOf numberAt little fresh
 shifts-refuted promise =
     let seen : _≡_ {A = ℕ} 3 2 = ap (λ (c : Caller). c .end .seen) (back-of shifts promise) in omega (arith, seen)
+
+-- ---- calls
+
+-- Bytes that keep two callers keep one.
+one-kept : (c d : Caller) (a b : List ℕ) → Keeps c → Keeps d → callerBytes ≤ length a → callerBytes ≤ length b
+    → callerKept c a ≡ callerKept d b → c ≡ d
+one-kept c d a b k l m n same = sym (kept-back c a k m .0) ∙ ap callerIn same ∙ kept-back d b l n .0
+
+-- So a call that leaves the bytes as they are leaves the caller as it was.
+unchanged : (c d : Caller) → Keeps c → Keeps d → callerKept c zeros ≡ callerKept d (callerKept c zeros) → c ≡ d
+unchanged c d k l same =
+    let long : callerBytes ≤ length (callerKept c zeros) = rw (kept-back c zeros k room .1) room in
+    one-kept c d zeros (callerKept c zeros) k l room long same
+
+-- Nothing happens at such a call.
+pub idle : Moves
+idle st _ _ output = kept 0 0 0 st output
+
+-- No byte is heard: two bytes of the answer to the start text stay heard, whatever comes.
+forgotten : busy ≡ callerHears busy 0 [] [] .caller → ⊥
+unfolding busy reader.fresh reader.stepOf reader.knownOf reader.knownStep moves.moveOf hostHears lineHeard calledStep text.followed text.stands
+forgotten same = let seen : _≡_ {A = ℕ} 2 0 = ap (λ (c : Caller). c .end .seen) same in omega (arith, seen)
+
+pub deaf-refuted : KeptCallOf idle keptWaits → ⊥
+unfolding idle
+deaf-refuted promise =
+    let said = promise busy zeros busy-keeps room in
+    forgotten (unchanged busy _ busy-keeps (said .hears-keeps 0 [] []) (ap (λ (k : Kept). k .state) (said .hears-same 0 [] [])))
+
+-- No time passes, for a caller that awaits the answer to the start text.
+calling : Caller
+calling = callerOf (session 4 (Waiting (wait (planOf Navigation (record { first = R9600; wish = 1; start = WithText; same = GoOn })) Text 0 0)))
+
+calling-keeps : Keeps calling
+unfolding calling arises waitFits fitsFile
+calling-keeps = record {
+  whole = fresh-whole;
+  arisen = refl;
+  real = record { image-real = omega arith; wish-real = omega arith };
+  seen-small = omega arith;
+  resent-small = omega arith;
+  dropped-small = omega arith;
+}
+
+four : List ℕ
+four = 1 ∷ 2 ∷ 3 ∷ 4 ∷ []
+
+waitedIn : Phase → ℕ
+waitedIn Ended = 0
+waitedIn (EndedAt _ _) = 0
+waitedIn (Waiting w) = w .waited
+
+counted : calling ≡ callerWaits calling 1 four [] .caller → ⊥
+unfolding calling four waitedIn hostWaits calledStep stepOf arises waitFits fitsFile timeNext
+counted same = let waited : _≡_ {A = ℕ} 0 1 = ap (λ (c : Caller). waitedIn (c .end .session .phase)) same in omega (arith, waited)
+
+pub timeless-refuted : KeptCallOf keptHears idle → ⊥
+unfolding idle
+timeless-refuted promise =
+    let said = promise calling zeros calling-keeps room in
+    counted (unchanged calling _ calling-keeps (said .waits-keeps 1 four []) (ap (λ (k : Kept). k .state) (said .waits-same 1 four [])))
+
+-- ---- openings
+
+-- What the last load has counted goes on.
+pub counts-on : Opens
+counts-on st number first wish start same image output =
+    let l = openingBy number first wish start same image output in
+    let c = callerIn st in
+    opened (numberIn (l .answer)) (countIn (l .answer)) (callerKept (callerWith (callerOf (l .session) .end) (c .resent) (c .dropped)) st)
+    (l .output)
+
+-- The opening of a type that is none, refused, after a load that has resent three messages.
+none : Wishes
+none = record { first = R9600; wish = 1; start = WithText; same = GoOn }
+
+refused : ℕ → ℕ → Caller
+refused resent dropped = callerWith (callerOf (endedOf 0) .end) resent dropped
+
+refused-keeps : (resent dropped : ℕ) → resent < 2 ^ 64 → dropped < 2 ^ 64 → Keeps (refused resent dropped)
+unfolding refused arises
+refused-keeps resent dropped h k = record {
+  whole = fresh-whole;
+  arisen = refl;
+  real = record { image-real = omega arith; wish-real = omega arith };
+  seen-small = omega arith;
+  resent-small = h;
+  dropped-small = k;
+}
+
+begins-anew : refused (busy .resent) (busy .dropped) ≡ refused 0 0 → ⊥
+unfolding busy refused
+begins-anew same = let resent : _≡_ {A = ℕ} 3 0 = ap (λ (c : Caller). c .resent) same in omega (arith, resent)
+
+counted-on : KeptOpeningOf counts-on → (st : List ℕ) → callerBytes ≤ length st
+    → callerKept (refused (callerIn st .resent) (callerIn st .dropped)) st ≡ callerKept (refused 0 0) st
+unfolding counts-on none refused openingBy wishesKnown openingOf kindOf
+counted-on promise st long = ap (λ (o : Opened). o .state) (promise st 0 none [] [] long (omega arith) (omega arith) .0)
+
+pub counts-on-refuted : KeptOpeningOf counts-on → ⊥
+counts-on-refuted promise =
+    let back = kept-back busy zeros busy-keeps room in
+    let long : callerBytes ≤ length (callerKept busy zeros) = rw (back .1) room in
+    let left = rw (back .0) at (counted-on promise (callerKept busy zeros) long) in
+    let keeps = refused-keeps (busy .resent) (busy .dropped) (busy-keeps .resent-small) (busy-keeps .dropped-small) in
+    begins-anew (one-kept _ _ _ _ keeps (refused-keeps 0 0 (omega arith) (omega arith)) long long left)

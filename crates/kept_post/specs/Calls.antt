@@ -34,7 +34,7 @@ use Rattle.kept_reader.specs.Promises.{Whole}
 use Rattle.kept_reader.specs.KeptRun.{fresh-whole, step-whole}
 use Rattle.kept_module.specs.RunLaws.{step-flash, opening-flash}
 use Rattle.kept_post.specs.Kept.{postBytes, postKept, keptAs, keptHears, keptWaits, keptNew, keptOpening}
-use Rattle.kept_post.specs.Promises.{Keeps, KeptMade, PayloadBytes, SameCall, KeptCall}
+use Rattle.kept_post.specs.Promises.{Keeps, KeptMade, PayloadBytes, KeptCall}
 use Rattle.kept_post.specs.Back.{kept-back}
 
 -- ---- the board after a byte or a time

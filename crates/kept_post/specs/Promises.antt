@@ -11,6 +11,7 @@ use Rattle.module.specs.Session.{arises}
 use Rattle.posts.specs.Post.{isOpen, waitingPost, openedPost, postHears, postWaits}
 use Rattle.posts.specs.declared.post.Post.{Post}
 use Rattle.kept_reader.specs.Promises.{Whole}
+use Rattle.kept_module.specs.Kept.{Kept, Opened}
 use Rattle.kept_post.specs.Kept.{postBytes, postKept, postIn, keptAs, keptHears, keptWaits, keptNew, keptOpening}
 
 -- A post as these calls leave it: a reader with a store of 1,035 bytes, a session that can arise over a flash whose length fits eight
@@ -31,27 +32,45 @@ KeptBackOf kept =
 abbrev pub KeptBack : Type 0
 KeptBack = KeptBackOf postKept
 
--- Calls.antt. In bytes with room a post that waits is made, and one with a session open over a flash, and each is such a post.
-abbrev pub KeptMade : Type 0
-KeptMade =
+-- Calls over bytes: a post is made, with or without a session; a byte or milliseconds.
+abbrev pub Makes : Type 0
+Makes = List ℕ → Opened
+
+abbrev pub Opens : Type 0
+Opens = List ℕ → List ℕ → Opened
+
+abbrev pub Moves : Type 0
+Moves = List ℕ → ℕ → List ℕ → List ℕ → Kept
+
+-- In bytes with room a post that waits is made, and one with a session open over a flash, and each is such a post. Stated of two calls, proved
+-- of ours (Calls.antt), refuted for wrong ones (Wrong.antt).
+abbrev pub KeptMadeOf : Makes → Opens → Type 0
+KeptMadeOf makes opens =
     (st flash : List ℕ) → postBytes ≤ length st → length flash < 2 ^ 64
-    → (keptNew st .state ≡ postKept waitingPost st) × Keeps waitingPost
-    × (keptOpening st flash .state ≡ postKept (openedPost waitingPost flash) st) × Keeps (openedPost waitingPost flash)
+    → (makes st .state ≡ postKept waitingPost st) × Keeps waitingPost
+    × (opens st flash .state ≡ postKept (openedPost waitingPost flash) st) × Keeps (openedPost waitingPost flash)
+
+abbrev pub KeptMade : Type 0
+KeptMade = KeptMadeOf keptNew keptOpening
 
 -- The payload of a frame that a byte completes for an open session is bytes, as it is wherever bytes are fed.
 abbrev pub PayloadBytes : Post → ℕ → Type 0
 PayloadBytes p byte = isOpen p ≡ true → (f : Frame) → List·Memᴰ f (framesOf (stepOf (p .board .reader) byte)) → Bytes (f .payload)
 
 -- A call answers what the post's own step does and leaves just that, and again such a post.
-pub record SameCall (p : Post) (st : List ℕ) : Type 0 where
+pub record SameCall (hears waits : Moves) (p : Post) (st : List ℕ) : Type 0 where
   pub hears-same : (byte : ℕ) (flash reply : List ℕ)
-      → keptHears (postKept p st) byte flash reply ≡ keptAs (postHears p byte flash reply) (postKept p st)
+      → hears (postKept p st) byte flash reply ≡ keptAs (postHears p byte flash reply) (postKept p st)
   pub hears-keeps : (byte : ℕ) (flash reply : List ℕ) → PayloadBytes p byte → length flash < 2 ^ 64
       → Keeps (postHears p byte flash reply .post)
   pub waits-same : (ms : ℕ) (flash reply : List ℕ)
-      → keptWaits (postKept p st) ms flash reply ≡ keptAs (postWaits p ms flash reply) (postKept p st)
+      → waits (postKept p st) ms flash reply ≡ keptAs (postWaits p ms flash reply) (postKept p st)
   pub waits-keeps : (ms : ℕ) (flash reply : List ℕ) → Keeps (postWaits p ms flash reply .post)
 
--- Calls.antt. So from every post that is made, through any calls.
+-- So from every post that is made, through any calls. Stated of two calls, proved of ours (Calls.antt), refuted for wrong ones
+-- (Wrong.antt).
+abbrev pub KeptCallOf : Moves → Moves → Type 0
+KeptCallOf hears waits = (p : Post) (st : List ℕ) → Keeps p → postBytes ≤ length st → SameCall hears waits p st
+
 abbrev pub KeptCall : Type 0
-KeptCall = (p : Post) (st : List ℕ) → Keeps p → postBytes ≤ length st → SameCall p st
+KeptCall = KeptCallOf keptHears keptWaits

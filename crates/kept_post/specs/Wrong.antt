@@ -1,25 +1,33 @@
--- Wrong ways to keep a post, and a proof for each that the promise fails of it, by one post and a buffer of zeros.
+-- Wrong ways to keep a post, to make one and to call it, and a proof for each that the promise fails of it, by one post and a buffer of zeros.
 use Prim.Native.Nat.{ℕ, _^_, _≤_, _<_}
-use mathlib.Core.Bool.{true}
-use mathlib.Core.List.{List, []}
-use mathlib.Core.Path.{_≡_, refl, ap}
+use mathlib.Core.Bool.{Bool, cond}
+use mathlib.Core.List.{List, [], _∷_}
+use mathlib.Core.Path.{_≡_, sym, ap, _∙_}
 use native.Mathlib.Omega.{arith}
 use lib.ListN.{length, replicate, length-replicate}
 use Rattle.octets.specs.Octets.{laid, over, numberAt, little, spelled}
+use Rattle.flat.specs.Answers.{nothing}
 use Rattle.flat.specs.Words.{spelledAll}
-use Rattle.module.specs.Session.{openingOf}
+use Rattle.module_model.specs.Phases.{openable, alive}
+use Rattle.module.specs.Session.{openingOf, takes, arises}
+use Rattle.module.specs.Step.{timeStep, stepOf}
 use Rattle.reader.specs.Reader.{fresh}
-use Rattle.board_end.specs.Board.{boardOf}
-use Rattle.posts.specs.Post.{postWith}
+use Rattle.host_end.specs.Text as text
+use Rattle.board_end.specs.Board.{boardOf, boardWaits}
+use Rattle.posts.specs.Post.{postWith, waitingPost, openedPost, listens, postHears, postWaits}
 use Rattle.posts.specs.declared.post.Post.{Post}
 use Rattle.module_promises.specs.Promises.{online}
 use Rattle.module_promises.specs.Arises.{opening-arises}
 use Rattle.kept_reader.specs.Kept.{readerKept, bytesOf}
 use Rattle.kept_reader.specs.KeptRun.{fresh-whole}
-use Rattle.kept_module.specs.Kept.{wordsOf}
+use Rattle.kept_module.specs.Kept.{wordsOf, Kept, kept, opened}
 use Rattle.kept_module.specs.RunLaws.{opening-flash}
-use Rattle.kept_post.specs.Kept.{postBytes, sessionPlace, seenPlace, countsOf, postIn}
-use Rattle.kept_post.specs.Promises.{Keeps, KeptBackOf}
+use Rattle.kept_post.specs.Kept.{postBytes, sessionPlace, countsOf, postKept, postIn, keptNew, keptOpening, keptHears, keptWaits}
+use Rattle.kept_post.specs.Promises.{Keeps, KeptBackOf, Makes, Opens, Moves, PayloadBytes, KeptMadeOf, KeptCallOf}
+use Rattle.kept_post.specs.Back.{kept-back}
+use Rattle.kept_post.specs.Calls.{kept-made}
+
+-- ---- ways to keep a post
 
 -- Two bytes of the start text were heard, five frames dropped.
 busy : Post
@@ -63,3 +71,98 @@ pub shifts-refuted : KeptBackOf shifts → ⊥
 unfolding busy zeros shifts postIn readerKept bytesOf laid over spelledAll spelled wordsOf numberAt little fresh openingOf
 shifts-refuted promise =
     let seen : _≡_ {A = ℕ} 5 2 = ap (λ (p : Post). p .seen) (back-of shifts promise) in omega (arith, seen)
+
+-- ---- calls
+
+-- Bytes that keep two posts keep one.
+one-kept : (p q : Post) (a b : List ℕ) → Keeps p → Keeps q → postBytes ≤ length a → postBytes ≤ length b
+    → postKept p a ≡ postKept q b → p ≡ q
+one-kept p q a b k l m n same = sym (kept-back p a k m .0) ∙ ap postIn same ∙ kept-back q b l n .0
+
+-- So a call that leaves the bytes as they are leaves the post as it was.
+unchanged : (p q : Post) → Keeps p → Keeps q → postKept p zeros ≡ postKept q (postKept p zeros) → p ≡ q
+unchanged p q k l same =
+    let long : postBytes ≤ length (postKept p zeros) = rw (kept-back p zeros k room .1) room in
+    one-kept p q zeros (postKept p zeros) k l room long same
+
+-- Nothing happens at such a call.
+pub idle : Moves
+idle st _ flash reply = kept 0 0 st flash reply
+
+-- No byte is heard: two bytes of the start text stay heard, whatever comes.
+forgotten : busy ≡ postHears busy 0 [] [] .post → ⊥
+unfolding busy postHears takes openingOf openable alive listens text.followed text.stands
+forgotten same = let seen : _≡_ {A = ℕ} 2 0 = ap (λ (p : Post). p .seen) same in omega (arith, seen)
+
+-- Without a session no frame is looked for.
+no-payload : PayloadBytes busy 0
+unfolding busy takes openingOf openable alive
+no-payload o f m = absurd (let z : _≡_ {A = ℕ} 0 1 = ap (λ (b : Bool). cond b 1 0) o in omega (arith, z))
+
+pub deaf-refuted : KeptCallOf idle keptWaits → ⊥
+unfolding idle
+deaf-refuted promise =
+    let said = promise busy zeros busy-keeps room in
+    let keeps = said .hears-keeps 0 [] [] no-payload (omega arith) in
+    forgotten (unchanged busy _ busy-keeps keeps (ap (λ (k : Kept). k .state) (said .hears-same 0 [] [])))
+
+-- No time passes, for a post with a session over a flash of one byte.
+flash : List ℕ
+flash = 255 ∷ []
+
+small : length flash < 2 ^ 64
+unfolding flash
+small = omega arith
+
+ready : Post
+ready = openedPost waitingPost flash
+
+ready-keeps : Keeps ready
+unfolding ready
+ready-keeps = kept-made zeros flash room small .3
+
+reply : List ℕ
+reply = replicate 64 0
+
+counted : ready ≡ postWaits ready 1 flash reply .post → ⊥
+unfolding ready flash reply openedPost waitingPost postWaits boardWaits takes openingOf openable alive stepOf timeStep arises
+counted same = let idles : _≡_ {A = ℕ} 0 1 = ap (λ (p : Post). p .board .session .idle) same in omega (arith, idles)
+
+pub timeless-refuted : KeptCallOf keptHears idle → ⊥
+unfolding idle
+timeless-refuted promise =
+    let said = promise ready zeros ready-keeps room in
+    counted (unchanged ready _ ready-keeps (said .waits-keeps 1 flash reply) (ap (λ (k : Kept). k .state) (said .waits-same 1 flash reply)))
+
+-- ---- the makings
+
+-- A new post is what the bytes held before.
+pub leaves : Makes
+leaves st = opened nothing st
+
+dropped-none : busy ≡ waitingPost → ⊥
+unfolding busy waitingPost
+dropped-none same = let dropped : _≡_ {A = ℕ} 5 0 = ap (λ (p : Post). p .dropped) same in omega (arith, dropped)
+
+waiting-keeps : Keeps waitingPost
+waiting-keeps = kept-made zeros [] room (omega arith) .1
+
+pub leaves-refuted : KeptMadeOf leaves keptOpening → ⊥
+unfolding leaves
+leaves-refuted promise =
+    let long : postBytes ≤ length (postKept busy zeros) = rw (kept-back busy zeros busy-keeps room .1) room in
+    dropped-none (unchanged busy waitingPost busy-keeps waiting-keeps (promise (postKept busy zeros) [] long (omega arith) .0))
+
+-- No session is opened.
+pub shut : Opens
+shut st _ = keptNew st
+
+flash-looked-at : waitingPost ≡ ready → ⊥
+unfolding waitingPost ready openedPost openingOf openable flash
+flash-looked-at same = let size : _≡_ {A = ℕ} 0 1 = ap (λ (p : Post). p .board .session .flash) same in omega (arith, size)
+
+pub shut-refuted : KeptMadeOf keptNew shut → ⊥
+unfolding shut ready
+shut-refuted promise =
+    let said = promise zeros flash room small in
+    flash-looked-at (one-kept waitingPost ready zeros zeros waiting-keeps ready-keeps room room (sym (said .0) ∙ said .2))
