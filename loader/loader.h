@@ -18,7 +18,7 @@ struct choice {
     const char *name;
     long *to, least, most;
 };
-void take_options(int argc, char **argv, const char *letters, const struct choice *choices, int words, const char *help);
+void take_options(int argc, char **argv, const char *letters, const struct choice *choices, int words, const char *usage);
 
 /* clock.c: a clock that never goes back, in microseconds. */
 int64_t clock_us(void);

@@ -26,20 +26,20 @@ static long number_in(const char *text) {
 }
 
 /* Help, a wrong option and a wrong number of words end the program. */
-void take_options(int argc, char **argv, const char *letters, const struct choice *choices, int words, const char *help) {
+void take_options(int argc, char **argv, const char *letters, const struct choice *choices, int words, const char *usage) {
     struct option longs[9] = {{"help", no_argument, NULL, 'h'}};
     for (size_t i = 0; choices[i].name != NULL; i++)
         longs[i + 1] = (struct option){choices[i].name, choices[i].most > 1, NULL, choices[i].letter};
     for (int letter; (letter = getopt_long(argc, argv, letters, longs, NULL)) != -1;) {
         const struct choice *choice = choices;
         while (choice->name != NULL && choice->letter != letter) choice++;
-        if (letter == 'h') exit((fputs(help, stdout), LOADED));
+        if (letter == 'h') exit((fputs(usage, stdout), LOADED));
         if (choice->name == NULL) exit(fail(WRONG, "try 'zrnkobal %s --help'", argv[0]));
         *choice->to = optarg == NULL ? 1 : number_in(optarg);
         if (*choice->to < choice->least || *choice->to > choice->most)
             exit(fail(WRONG, "-%c: %ld to %ld, not %s", letter, choice->least, choice->most, optarg));
     }
-    if (argc - optind != words) exit((fputs(help, stderr), WRONG));
+    if (argc - optind != words) exit((fputs(usage, stderr), WRONG));
 }
 
 int main(int argc, char **argv) {
