@@ -103,8 +103,8 @@ void port_send(struct port *port, const uint8_t *bytes, size_t count) {
     int64_t begun = clock_us(), start = clock_later(begun, port->clear);
     for (size_t sent = 0; sent < count;) {
         ssize_t n = write(port->fd, bytes + sent, count - sent);
-        if (n >= 0) sent += (size_t)n;
-        else if (errno != EAGAIN && errno != EINTR) broken(port, VANISHED);
+        if (n > 0) sent += (size_t)n;
+        else if (n < 0 && errno != EAGAIN && errno != EINTR) broken(port, VANISHED);
         else if (clock_us() - begun > STUCK_US) broken(port, "the port takes no bytes");
         else poll(&room, 1, TURN_MS);
     }
