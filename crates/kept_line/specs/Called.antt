@@ -7,6 +7,8 @@ use mathlib.Core.Path.{_≡_}
 use lib.ListN.{take}
 use Rattle.wire.specs.Frame.{Frame}
 use Rattle.module_promises.specs.Runs.{heardIn}
+use Rattle.host_model.specs.Events.{numberIn}
+use Rattle.host_model.specs.declared.events.Answer.the-variants.{Nothing}
 use Rattle.posts.specs.Post.{isOpen}
 use Rattle.line.specs.Steps.{afterEach, EachMay}
 use Rattle.line.specs.Wired.{completes, Sent}
@@ -86,6 +88,13 @@ calledBy e image x (caller-time ms output) = callerCalled x (e .caller-waits (x 
 
 abbrev pub called : List ℕ → Called → Call → Called
 called = calledBy ours
+
+-- What a call of the caller answers; nothing where it is the post's.
+abbrev pub callerAnswers : Ends → List ℕ → Called → Call → ℕ
+callerAnswers e image x (post-byte byte reply) = numberIn Nothing
+callerAnswers e image x (post-time ms reply) = numberIn Nothing
+callerAnswers e image x (caller-byte byte output) = e .caller-hears (x .caller) byte image output .answer
+callerAnswers e image x (caller-time ms output) = e .caller-waits (x .caller) ms image output .answer
 
 -- A run of them, each allowed where it comes.
 abbrev pub allBy : Ends → List ℕ → Called → List Call → Called

@@ -1,13 +1,13 @@
 -- L1 of the calls: each is a byte or a time for the ends that the bytes keep, or the board's opening anew, or nothing.
 use Prim.Native.Nat.{ℕ, _^_, _≤_, _<_}
-use mathlib.Core.Bool.{Bool, true, false}
+use mathlib.Core.Bool.{true}
 use mathlib.Core.List.{List, [], _∷_, _++_, append-nil, List·Memᴰ}
 use mathlib.Core.Path.{_≡_, refl, sym, ap, _∙_}
 use native.Mathlib.Omega.{arith}
 use borrow.Author.Tests.{ltb-false}
 use lib.Dec.{eqb, ltb}
 use lib.ListN.{length, take}
-use Rattle.octets.specs.Octets.{Bytes, laid, partOf}
+use Rattle.octets.specs.Octets.{Bytes, partOf}
 use Rattle.octets.specs.PartLaws.{part-laid}
 use Rattle.octets.specs.Choice.{either-way}
 use Rattle.kinds.specs.Kinds.{numberOf}
@@ -21,20 +21,18 @@ use Rattle.module_promises.specs.Runs.{heardIn}
 use Rattle.module_promises.specs.RunsLaws.{heard-nothing}
 use Rattle.module_model.specs.Answers as module-answers
 use Rattle.host_model.specs.Events.{loadDone}
-use Rattle.host.specs.Step.{Wishes, openingOf}
+use Rattle.host.specs.Step.{openingOf}
 use Rattle.host.specs.declared.session.Session.{Session}
-use Rattle.host_model.specs.declared.events.Answer.the-variants.{Done}
 use Rattle.host_model.specs.declared.plan.Stage.{Stage}
 use Rattle.host_model.specs.declared.plan.Stage.the-variants.{Text, Asking, Declaring, Sending, Noticing, Restarting}
 use Rattle.host_model.specs.declared.waits.Wait.{Wait}
 use Rattle.host_model.specs.declared.waits.Phase.{Phase}
 use Rattle.host_model.specs.declared.waits.Phase.the-variants.{Ended, EndedAt, Waiting}
-use Rattle.board_end.specs.Board.{BoardLeft, boardHears, boardWaits}
 use Rattle.host_end.specs.HostEnd.{HostLeft, hostHears, hostWaits}
 use Rattle.host_end.specs.Text.{followed}
 use Rattle.host_end.specs.declared.end.HostEnd.{HostEnd}
-use Rattle.posts.specs.Caller.{CallerLeft, calledStep, calledOf, callerOf, callerHears, callerWaits}
-use Rattle.posts.specs.Post.{PostLeft, openedPost, isOpen, silent, wentOf, begins, listens, postHears, postWaits}
+use Rattle.posts.specs.Caller.{calledStep, calledOf, callerOf}
+use Rattle.posts.specs.Post.{PostLeft, openedPost, isOpen, silent, begins, listens, postHears, postWaits}
 use Rattle.posts.specs.declared.caller.Caller.{Caller}
 use Rattle.posts.specs.declared.post.Post.{Post}
 use Rattle.line.specs.Steps.{each-append, may-append}
@@ -53,9 +51,9 @@ use Rattle.kept_post.specs.Kept.{postBytes, postIn, postKept}
 use Rattle.kept_post.specs.Promises as post
 use Rattle.kept_post.specs.Back as post-back
 use Rattle.kept_post.specs.Calls as post-calls
-use Rattle.kept_line.specs.Called.{Called, Call, post-byte, post-time, caller-byte, caller-time, MayCall, postCalled, callerCalled, called, calledAll, MayCalls, begun}
+use Rattle.kept_line.specs.Called.{Called, Call, post-byte, post-time, caller-byte, caller-time, MayCall, postCalled, callerCalled, ours, called, callerAnswers, calledAll, MayCalls, begun}
 use Rattle.kept_line.specs.Promises.{FileByCalls}
-use Rattle.kept_line.specs.Done.{hears-tells}
+use Rattle.kept_line.specs.Done.{hears-tells, waits-tells}
 
 -- The ends that the bytes keep, on one line.
 abbrev wiredIn : Called → Wired
@@ -329,16 +327,25 @@ noticed-stage s n = rw (n .phase-is, n .stage-is)
 
 -- ---- done by its number
 
-says-done : (image : List ℕ) (x : Called) → Good x → (byte : ℕ) (output : List ℕ) → MayCall x (caller-byte byte output)
-    → keptHears (x .caller) byte image output .answer ≡ loadDone → hostHears (callerIn (x .caller) .end) byte image output .answer ≡ Done
+-- A call of the caller that answers by that number is a feed to which the host says done, after a notice.
+call-done : (kind : Kind) (image before : List ℕ) (x : Called) → Good x → InFlashByBytes kind image before (wiredIn x) → (m : Call) → MayCall x m
+    → callerAnswers ours image x m ≡ loadDone → HasNotice (callerIn (x .caller) .end .session)
 unfolding calledStep
-says-done image x g byte output may d =
+call-done kind image before x g i (post-byte byte reply) may d = absurd (omega (arith, d))
+call-done kind image before x g i (post-time ms reply) may d = absurd (omega (arith, d))
+call-done kind image before x g i (caller-byte byte output) may d =
     let own = kept-call (g .c) (g .st) (g .caller-keeps) (g .caller-room) in
     let same = ap (λ (s : List ℕ). keptHears s byte image output) (g .caller-is) ∙ own .hears-same byte image output in
     let may-here : Sent (x .from-board) (completes (g .c .end .reader) byte) = rw (caller-in x g) at may in
     let bytes : (f : Frame) → List·Memᴰ f (completes (g .c .end .reader) byte) → Bytes (f .payload) = λ f m. may-here f m .1 in
-    rw (caller-in x g)
-    (hears-tells (g .c .end) byte image output (g .caller-keeps .arisen) bytes (sym (ap (λ (k : Kept). k .answer) same) ∙ d))
+    i .done-noticed (host-byte byte output) may
+    (rw (caller-in x g)
+    (hears-tells (g .c .end) byte image output (g .caller-keeps .arisen) bytes (sym (ap (λ (k : Kept). k .answer) same) ∙ d)))
+call-done kind image before x g i (caller-time ms output) may d =
+    let own = kept-call (g .c) (g .st) (g .caller-keeps) (g .caller-room) in
+    let same = ap (λ (s : List ℕ). keptWaits s ms image output) (g .caller-is) ∙ own .waits-same ms image output in
+    i .done-noticed (host-time ms output) tt
+    (rw (caller-in x g) (waits-tells (g .c .end) ms image output (g .caller-keeps .arisen) (sym (ap (λ (k : Kept). k .answer) same) ∙ d)))
 
 -- ---- L1 of the calls
 
@@ -378,6 +385,6 @@ file-by-calls kind w image output st p pst flash calls room short wish post-room
           let further = run-led image flash x flash-short on (run .good) more allowed in
           rw (ap (λ (w : Wired). w .flash) (further .leads))
           (i .noticed (stage-noticed (callerIn (x .caller) .end .session) says) (further .feeds) (further .may));
-      done-accepted = λ byte out allowed d.
-          noticed-stage (callerIn (x .caller) .end .session) (i .done-noticed byte out allowed (says-done image x (run .good) byte out allowed d));
+      done-accepted = λ m allowed d.
+          noticed-stage (callerIn (x .caller) .end .session) (call-done kind image flash x (run .good) i m allowed d);
     }

@@ -2,7 +2,7 @@
 use Prim.Native.Nat.{ℕ}
 use mathlib.Core.Bool.{Bool, true, false}
 use mathlib.Core.List.{List, [], List·Memᴰ, List·Memᴰ·head}
-use mathlib.Core.Path.{_≡_, refl, sym, ap, _∙_}
+use mathlib.Core.Path.{_≡_, refl}
 use native.Mathlib.Omega.{arith}
 use borrow.Author.Tests.{eqb-true}
 use lib.Dec.{eqb}
@@ -21,7 +21,7 @@ use Rattle.host.specs.Step.{Left, phaseStep, stepOf}
 use Rattle.host.specs.declared.session.Session.{Session}
 use Rattle.host_model.specs.Events.{numberIn, loadDone}
 use Rattle.host_model.specs.declared.events.Answer.{Answer}
-use Rattle.host_model.specs.declared.events.Answer.the-variants.{Nothing, Sent, Done, Refused, Failed}
+use Rattle.host_model.specs.declared.events.Answer.the-variants.{Nothing, Done}
 use Rattle.host_model.specs.declared.events.Event.the-variants as event
 use Rattle.host_model.specs.declared.waits.Wait.{Wait}
 use Rattle.host_model.specs.declared.waits.Phase.{Phase}
@@ -31,7 +31,7 @@ use Rattle.host_promises.specs.Promises.{RefusedBy, lowest, parameters, packet,
 use Rattle.host_promises.specs.Promises.{Turn, sends, no-room, gives-up, too-many, awaits, finishes, waits, passed-over}
 use Rattle.host_promises.specs.Turns.{every-turn}
 use Rattle.host_end.specs.Text.{followed}
-use Rattle.host_end.specs.HostEnd.{HostLeft, frameHeard, lineHeard, heardBy, hostHears}
+use Rattle.host_end.specs.HostEnd.{HostLeft, frameHeard, lineHeard, heardBy, hostHears, hostWaits}
 use Rattle.host_end.specs.declared.end.HostEnd.{HostEnd}
 
 -- An answer that is told as done is done.
@@ -127,3 +127,9 @@ unfolding hostHears
 hears-tells e byte image output a bytes =
     let read = reader.stepOf (e .reader) byte in
     heard-tells (read .reader) (followed startAnswer (e .seen) byte) (e .session) a image output (read .heard) bytes
+
+-- So is a time.
+pub waits-tells : (e : HostEnd) (ms : ℕ) (image output : List ℕ) → arises (e .session) ≡ true → Tells (hostWaits e ms image output .answer)
+unfolding hostWaits
+waits-tells e ms image output a =
+    step-tells (e .session) (record { event = event.Elapsed ms; bytes = []; image = image; output = output }) a tt

@@ -14,7 +14,7 @@ use Rattle.kept_caller.specs.Kept.{callerBytes}
 use Rattle.kept_caller.specs.Promises.{keptOpened}
 use Rattle.kept_post.specs.Kept.{postBytes, postKept}
 use Rattle.kept_post.specs.Promises.{Keeps}
-use Rattle.kept_line.specs.Called.{Called, Call, caller-byte, MayCall, Ends, ours, MayBy, allBy, begun}
+use Rattle.kept_line.specs.Called.{Called, Call, MayCall, Ends, ours, callerAnswers, MayBy, allBy, begun}
 
 -- zrn_caller_view answers 6: a notice of State 0 has been taken.
 abbrev pub SaysAccepted : Ends → Called → Type 0
@@ -28,8 +28,7 @@ pub record InFlashByCalls (e : Ends) (kind : Kind) (image before : List ℕ) (x 
   -- Once the view says 6, the declared range holds the image, now and after any further calls.
   pub accepted : SaysAccepted e x → (more : List Call) → MayBy e image x more → Holds kind image before (allBy e image x more .flash)
   -- A call answers done only when the view said 6 before it.
-  pub done-accepted : (byte : ℕ) (output : List ℕ) → MayCall x (caller-byte byte output)
-      → e .caller-hears (x .caller) byte image output .answer ≡ loadDone → SaysAccepted e x
+  pub done-accepted : (m : Call) → MayCall x m → callerAnswers e image x m ≡ loadDone → SaysAccepted e x
 
 -- L1 of the calls, stated of any calls, proved of ours (Calls.antt), refuted for wrong ones (Wrong.antt). Open a host by zrn_caller_open in bytes
 -- with room, with any wishes over an image, lent again at every call; join it to a post in bytes with room: any reader, any session that

@@ -36,7 +36,7 @@ use Rattle.kept_post.specs.Kept.{postBytes, postKept, postIn}
 use Rattle.kept_post.specs.Promises.{Keeps}
 use Rattle.kept_post.specs.Back as post-back
 use Rattle.kept_post.specs.Calls.{kept-made}
-use Rattle.kept_line.specs.Called.{Called, Call, post-byte, Ends, ours, MayBy, allBy, begun}
+use Rattle.kept_line.specs.Called.{Called, Call, post-byte, caller-byte, caller-time, Ends, ours, MayBy, allBy, begun}
 use Rattle.kept_line.specs.Promises.{InFlashByCalls, FileByCallsOf}
 
 -- ---- one load, at its opening
@@ -134,7 +134,7 @@ scribbles-refuted promise =
     let touched = promised scribbles promise kind.Navigation (post-byte 0 [] ∷ []) ((λ _. may), tt) .elsewhere 0 (inl (omega arith)) in
     let first : _≡_ {A = ℕ} 9 0 = touched in omega (arith, first)
 
--- ---- a host that says done on any byte
+-- ---- a host that says done on any byte, and one that says it after any time
 
 pub boasts : Ends
 boasts = record {
@@ -142,6 +142,15 @@ boasts = record {
   post-waits = post.keptWaits;
   caller-hears = λ st byte image output. host-kept.kept loadDone 0 0 st output;
   caller-waits = caller.keptWaits;
+  stage = ours .stage;
+}
+
+pub tires : Ends
+tires = record {
+  post-hears = post.keptHears;
+  post-waits = post.keptWaits;
+  caller-hears = caller.keptHears;
+  caller-waits = λ st ms image output. host-kept.kept loadDone 0 0 st output;
   stage = ours .stage;
 }
 
@@ -156,11 +165,19 @@ begun-in =
     let own = kept-opening (bytes callerBytes) (numberOf kind.Upgrade) wishes ones [] (room-of callerBytes) short-ones short-wish in
     ap (λ o. callerIn (o .state)) (own .0) ∙ caller-back.kept-back _ (bytes callerBytes) (own .1) (room-of callerBytes) .0
 
+-- So its view does not say 6.
+not-six : ours .stage (start kind.Upgrade .caller) ≡ restartingStage → ⊥
+not-six six =
+    let begun-stage : ours .stage (start kind.Upgrade .caller) ≡ 0 = rw (begun-in, ended) in
+    let stage : _≡_ {A = ℕ} 0 6 = sym begun-stage ∙ six in omega (arith, stage)
+
 pub boasts-refuted : FileByCallsOf boasts → ⊥
 unfolding boasts
 boasts-refuted promise =
     let may : Sent (start kind.Upgrade .from-board) (completes (callerIn (start kind.Upgrade .caller) .end .reader) 0) =
     rw (begun-in, fresh-complete) (λ f m. absurd (nobody f m)) in
-    let begun-stage : ours .stage (start kind.Upgrade .caller) ≡ 0 = rw (begun-in, ended) in
-    let six = promised boasts promise kind.Upgrade [] tt .done-accepted 0 [] may refl in
-    let stage : _≡_ {A = ℕ} 0 6 = sym begun-stage ∙ six in omega (arith, stage)
+    not-six (promised boasts promise kind.Upgrade [] tt .done-accepted (caller-byte 0 []) may refl)
+
+pub tires-refuted : FileByCallsOf tires → ⊥
+unfolding tires
+tires-refuted promise = not-six (promised tires promise kind.Upgrade [] tt .done-accepted (caller-time 0 []) tt refl)

@@ -25,13 +25,12 @@ use Rattle.host_model.specs.declared.events.Answer.the-variants.{Done}
 use Rattle.host_model.specs.declared.waits.Phase.the-variants.{Waiting}
 use Rattle.host_model.specs.declared.waits.Wait.{Wait}
 use Rattle.board_end.specs.Board.{BoardLeft}
-use Rattle.host_end.specs.HostEnd.{hostHears}
 use Rattle.host_promises.specs.Promises.{largestMessage}
 use Rattle.board_end.specs.declared.board.Board.{Board}
 use Rattle.line.specs.Feeds.{BoardAfter, Fed, Roomy, boardAfter, bytesOf, cleanBytes, fedOf}
 use Rattle.line.specs.Joined.{Allowed, HostSession, Joined, May, ModuleSession, Move, after, afterAll, hostLeaves, joined}
 use Rattle.line.specs.Lossless.{Talk, talkFrom, talks, turnsOf}
-use Rattle.line.specs.Wired.{Wired, Feed, host-byte, MayFeed, MayAll, fedAll, wired}
+use Rattle.line.specs.Wired.{Wired, Feed, MayFeed, hostAnswers, MayAll, fedAll, wired}
 
 -- ---- L1, the file is in the flash
 
@@ -77,8 +76,7 @@ pub record InFlashByBytes (kind : Kind) (image before : List ℕ) (x : Wired) : 
   pub elsewhere : (i : ℕ) → Outside kind image i → getD (x .flash) i 0 ≡ getD before i 0
   pub noticed : HasNotice (x .host .session) → (more : List Feed) → MayAll image x more
       → Holds kind image before (fedAll image x more .flash)
-  pub done-noticed : (byte : ℕ) (output : List ℕ) → MayFeed x (host-byte byte output)
-      → hostHears (x .host) byte image output .answer ≡ Done → HasNotice (x .host .session)
+  pub done-noticed : (f : Feed) → MayFeed x f → hostAnswers image x f ≡ Done → HasNotice (x .host .session)
 
 -- L1 of bytes (Wires.antt). The board has any reader and any session.
 abbrev pub FileByBytes : Type 0

@@ -11,6 +11,8 @@ use Rattle.module_promises.specs.Runs.{heardIn}
 use Rattle.module_model.specs.Answers as module-answers
 use Rattle.host.specs.Step as host-step
 use Rattle.host_model.specs.Events as host-events
+use Rattle.host_model.specs.declared.events.Answer.{Answer}
+use Rattle.host_model.specs.declared.events.Answer.the-variants.{Nothing}
 use Rattle.host_promises.specs.Runs as host-runs
 use Rattle.board_end.specs.Board.{BoardLeft, boardOf, boardHears, boardWaits}
 use Rattle.host_end.specs.HostEnd.{HostLeft, endOf, hostHears, hostWaits}
@@ -85,6 +87,14 @@ fed image x (board-time ms reply) = boardFed x (boardWaits (x .board) ms (x .fla
 fed image x board-anew = boardAnew x
 fed image x (host-byte byte output) = hostFed x (hostHears (x .host) byte image output)
 fed image x (host-time ms output) = hostFed x (hostWaits (x .host) ms image output)
+
+-- What the host answers then; nothing where it is the board that is fed.
+abbrev pub hostAnswers : List ℕ → Wired → Feed → Answer
+hostAnswers image x (board-byte byte reply) = Nothing
+hostAnswers image x (board-time ms reply) = Nothing
+hostAnswers image x board-anew = Nothing
+hostAnswers image x (host-byte byte output) = hostHears (x .host) byte image output .answer
+hostAnswers image x (host-time ms output) = hostWaits (x .host) ms image output .answer
 
 -- A run of them, each allowed where it comes.
 abbrev pub fedAll : List ℕ → Wired → List Feed → Wired

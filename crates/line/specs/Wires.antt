@@ -37,7 +37,7 @@ use Rattle.line.specs.Steps.{each-append, may-append}
 use Rattle.line.specs.Lossless.{isDone}
 use Rattle.line.specs.Promises.{HasNotice, InFlash, FileByBytes}
 use Rattle.line.specs.File.{file-in-flash}
-use Rattle.line.specs.Wired.{Wired, Feed, board-byte, board-time, board-anew, host-byte, host-time, Sent, MayFeed, boardFed, hostFed, fed, fedAll, MayAll, wired, joinedIn}
+use Rattle.line.specs.Wired.{Wired, Feed, board-byte, board-time, board-anew, host-byte, host-time, Sent, MayFeed, boardFed, hostFed, fed, hostAnswers, fedAll, MayAll, wired, joinedIn}
 
 -- ---- a payload as long as its frame says
 
@@ -155,7 +155,7 @@ feeds-move image x (f ∷ fs) may =
 
 -- ---- L1 of bytes
 
--- Done is said to a frame or to a line of text that the joined host would say it to.
+-- Done is said to a frame, a line of text or a time that the joined host would say it to.
 line-done : (kind : Kind) (image before : List ℕ) (x : Wired) → InFlash kind image before (joinedIn x) → (output : List ℕ) (r : Reader)
     (seen : ℕ) (dropped : Bool) → end.lineHeard r seen (x .host .session) dropped image output .answer ≡ Done → HasNotice (x .host .session)
 unfolding end.lineHeard
@@ -176,12 +176,16 @@ host-done kind image before x i output (Whole command n) r seen may d =
     (sym (host-count (x .host .session) command n (payloadIn (r .store) n) image output (payload-short r n))) ∙ d)
 host-done kind image before x i output Dropped r seen may d = line-done kind image before x i output r seen true d
 
-byte-done : (kind : Kind) (image before : List ℕ) (x : Wired) → InFlash kind image before (joinedIn x) → (byte : ℕ) (output : List ℕ)
-    → MayFeed x (host-byte byte output) → end.hostHears (x .host) byte image output .answer ≡ Done → HasNotice (x .host .session)
-unfolding end.hostHears
-byte-done kind image before x i byte output may d =
+feed-done : (kind : Kind) (image before : List ℕ) (x : Wired) → InFlash kind image before (joinedIn x) → (f : Feed) → MayFeed x f
+    → hostAnswers image x f ≡ Done → HasNotice (x .host .session)
+unfolding end.hostHears end.hostWaits
+feed-done kind image before x i (board-byte byte reply) may d = absurd (false≢true (ap isDone d))
+feed-done kind image before x i (board-time ms reply) may d = absurd (false≢true (ap isDone d))
+feed-done kind image before x i board-anew may d = absurd (false≢true (ap isDone d))
+feed-done kind image before x i (host-byte byte output) may d =
     let read = reader.stepOf (x .host .reader) byte in
     host-done kind image before x i output (read .heard) (read .reader) (followed startAnswer (x .host .seen) byte) may d
+feed-done kind image before x i (host-time ms output) may d = i .done-noticed (host-waits ms output) tt d
 
 pub file-by-bytes : FileByBytes
 file-by-bytes kind w image output b flash feeds may =
@@ -196,5 +200,5 @@ file-by-bytes kind w image output b flash feeds may =
       noticed = λ n more allowed.
           let further = feeds-move image x more allowed in
           rw (ap (λ (j : Joined). j .flash) (further .leads)) (i .noticed n (further .moves) (further .may));
-      done-noticed = λ byte out allowed d. byte-done kind image flash x i byte out allowed d;
+      done-noticed = feed-done kind image flash x i;
     }
