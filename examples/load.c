@@ -58,9 +58,10 @@ static uint8_t caller_hears(const uint8_t *image, size_t length, uint8_t *passed
 
 /* Loads one block. Answers whether the load is done and the flash is right. */
 static int load(uint16_t type, const uint8_t *image, size_t length) {
-    static const size_t bases[] = {0, 0x8000, 0x0000, 0x3E000};
     size_t accepted, total, resent, dropped, shown = 0;
     uint8_t passed = 0, rate;
+    uint32_t base;
+    zrn_type_address(type, &base);
     memcpy(before, flash, sizeof flash);
     zrn_post_new(post, sizeof post);
     to_caller.count = 0;
@@ -82,7 +83,7 @@ static int load(uint16_t type, const uint8_t *image, size_t length) {
         printf("\n");
         return 0;
     }
-    memcpy(before + bases[type], image, length);
+    memcpy(before + base, image, length);
     int right = memcmp(before, flash, sizeof flash) == 0;
     printf("  done; %s\n", right ? "the range holds the image; all else is untouched" : "WRONG: the flash is not as it should be");
     return right;

@@ -3,4 +3,5 @@ pub mod Answers
 pub mod Words
 pub mod WordsLaws
 pub mod Found
+pub mod Backs
 pub mod Calls

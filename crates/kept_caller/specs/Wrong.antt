@@ -2,10 +2,11 @@
 -- a buffer of zeros.
 use Prim.Native.Nat.{ℕ, _^_, _≤_, _<_}
 use mathlib.Core.List.{List, [], _∷_}
-use mathlib.Core.Path.{_≡_, refl, sym, ap, _∙_}
+use mathlib.Core.Path.{_≡_, refl, ap}
 use native.Mathlib.Omega.{arith}
-use lib.ListN.{length, replicate, length-replicate}
+use lib.ListN.{length}
 use Rattle.octets.specs.Octets.{laid, over, numberAt, little, spelled}
+use Rattle.flat.specs.Backs.{zeros, zeros-room, one-kept, unchanged}
 use Rattle.flat.specs.Words.{spelledAll}
 use Rattle.kinds.specs.Kinds.{kindOf, fitsFile}
 use Rattle.kinds.specs.declared.Kind.the-variants.{Navigation}
@@ -51,16 +52,9 @@ busy-keeps = record {
   dropped-small = omega arith;
 }
 
-zeros : List ℕ
-zeros = replicate callerBytes 0
-
-room : callerBytes ≤ length zeros
-unfolding zeros
-room = rw (length-replicate {A = ℕ} callerBytes 0) (omega arith)
-
 -- Whatever is read back is the caller that was kept.
-back-of : (kept : Caller → List ℕ → List ℕ) → KeptBackOf kept → callerIn (kept busy zeros) ≡ busy
-back-of kept promise = promise busy zeros busy-keeps room .0
+back-of : (kept : Caller → List ℕ → List ℕ) → KeptBackOf kept → callerIn (kept busy (zeros callerBytes)) ≡ busy
+back-of kept promise = promise busy (zeros callerBytes) busy-keeps (zeros-room callerBytes) .0
 
 -- What is counted is not written.
 pub forgets : Caller → List ℕ → List ℕ
@@ -82,16 +76,9 @@ shifts-refuted promise =
 
 -- ---- calls
 
--- Bytes that keep two callers keep one.
-one-kept : (c d : Caller) (a b : List ℕ) → Keeps c → Keeps d → callerBytes ≤ length a → callerBytes ≤ length b
-    → callerKept c a ≡ callerKept d b → c ≡ d
-one-kept c d a b k l m n same = sym (kept-back c a k m .0) ∙ ap callerIn same ∙ kept-back d b l n .0
-
--- So a call that leaves the bytes as they are leaves the caller as it was.
-unchanged : (c d : Caller) → Keeps c → Keeps d → callerKept c zeros ≡ callerKept d (callerKept c zeros) → c ≡ d
-unchanged c d k l same =
-    let long : callerBytes ≤ length (callerKept c zeros) = rw (kept-back c zeros k room .1) room in
-    one-kept c d zeros (callerKept c zeros) k l room long same
+-- A call that leaves the bytes as they are leaves the caller as it was.
+as-it-was : (a b : Caller) → Keeps a → Keeps b → callerKept a (zeros callerBytes) ≡ callerKept b (callerKept a (zeros callerBytes)) → a ≡ b
+as-it-was a b k l = unchanged Keeps callerBytes callerKept callerIn kept-back a b (zeros callerBytes) k l (zeros-room callerBytes)
 
 -- Nothing happens at such a call.
 pub idle : Moves
@@ -105,8 +92,8 @@ forgotten same = let seen : _≡_ {A = ℕ} 2 0 = ap (λ (c : Caller). c .end .s
 pub deaf-refuted : KeptCallOf idle keptWaits → ⊥
 unfolding idle
 deaf-refuted promise =
-    let said = promise busy zeros busy-keeps room in
-    forgotten (unchanged busy _ busy-keeps (said .hears-keeps 0 [] []) (ap (λ (k : Kept). k .state) (said .hears-same 0 [] [])))
+    let said = promise busy (zeros callerBytes) busy-keeps (zeros-room callerBytes) in
+    forgotten (as-it-was busy _ busy-keeps (said .hears-keeps 0 [] []) (ap (λ (k : Kept). k .state) (said .hears-same 0 [] [])))
 
 -- No time passes, for a caller that awaits the answer to the start text.
 calling : Caller
@@ -138,8 +125,8 @@ counted same = let waited : _≡_ {A = ℕ} 0 1 = ap (λ (c : Caller). waitedIn 
 pub timeless-refuted : KeptCallOf keptHears idle → ⊥
 unfolding idle
 timeless-refuted promise =
-    let said = promise calling zeros calling-keeps room in
-    counted (unchanged calling _ calling-keeps (said .waits-keeps 1 four []) (ap (λ (k : Kept). k .state) (said .waits-same 1 four [])))
+    let said = promise calling (zeros callerBytes) calling-keeps (zeros-room callerBytes) in
+    counted (as-it-was calling _ calling-keeps (said .waits-keeps 1 four []) (ap (λ (k : Kept). k .state) (said .waits-same 1 four [])))
 
 -- ---- openings
 
@@ -180,8 +167,8 @@ counted-on promise st long = ap (λ (o : Opened). o .state) (promise st 0 none [
 
 pub counts-on-refuted : KeptOpeningOf counts-on → ⊥
 counts-on-refuted promise =
-    let back = kept-back busy zeros busy-keeps room in
-    let long : callerBytes ≤ length (callerKept busy zeros) = rw (back .1) room in
-    let left = rw (back .0) at (counted-on promise (callerKept busy zeros) long) in
+    let back = kept-back busy (zeros callerBytes) busy-keeps (zeros-room callerBytes) in
+    let long : callerBytes ≤ length (callerKept busy (zeros callerBytes)) = rw (back .1) (zeros-room callerBytes) in
+    let left = rw (back .0) at (counted-on promise (callerKept busy (zeros callerBytes)) long) in
     let keeps = refused-keeps (busy .resent) (busy .dropped) (busy-keeps .resent-small) (busy-keeps .dropped-small) in
-    begins-anew (one-kept _ _ _ _ keeps (refused-keeps 0 0 (omega arith) (omega arith)) long long left)
+    begins-anew (one-kept Keeps callerBytes callerKept callerIn kept-back _ _ _ _ keeps (refused-keeps 0 0 (omega arith) (omega arith)) long long left)

@@ -31,7 +31,7 @@ use Rattle.host_model.specs.declared.waits.Phase.the-variants.{Ended, EndedAt, 
 use Rattle.host_end.specs.HostEnd.{HostLeft, hostHears, hostWaits}
 use Rattle.host_end.specs.Text.{followed}
 use Rattle.host_end.specs.declared.end.HostEnd.{HostEnd}
-use Rattle.posts.specs.Caller.{calledStep, calledOf, callerOf}
+use Rattle.posts.specs.Caller.{calledStep, calledOf, callerOf, callerHears, callerWaits}
 use Rattle.posts.specs.Post.{PostLeft, openedPost, isOpen, silent, begins, listens, postHears, postWaits}
 use Rattle.posts.specs.declared.caller.Caller.{Caller}
 use Rattle.posts.specs.declared.post.Post.{Post}
@@ -84,6 +84,18 @@ module _ (x : Called) (g : Good x) where
 
   post-in : postIn (x .post) ≡ g .p
   post-in = ap postIn (g .post-is) ∙ post-back.kept-back (g .p) (g .pst) (g .post-keeps) (g .post-room) .0
+
+  -- A call of the caller tells what the caller's own step leaves, and again there is such a caller.
+  own : caller.SameCall keptHears keptWaits (g .c) (g .st)
+  own = kept-call (g .c) (g .st) (g .caller-keeps) (g .caller-room)
+
+  hears-is : (byte : ℕ) (image output : List ℕ)
+      → keptHears (x .caller) byte image output ≡ keptAs (callerHears (g .c) byte image output) (callerKept (g .c) (g .st))
+  hears-is byte image output = ap (λ (s : List ℕ). keptHears s byte image output) (g .caller-is) ∙ own .hears-same byte image output
+
+  waits-is : (ms : ℕ) (image output : List ℕ)
+      → keptWaits (x .caller) ms image output ≡ keptAs (callerWaits (g .c) ms image output) (callerKept (g .c) (g .st))
+  waits-is ms image output = ap (λ (s : List ℕ). keptWaits s ms image output) (g .caller-is) ∙ own .waits-same ms image output
 
 -- A call is these feeds of the ends.
 record Led (image : List ℕ) (x y : Called) : Type 0 where
@@ -139,16 +151,14 @@ module _ (image : List ℕ) (x : Called) (g : Good x) (k : Kept) (l : HostLeft) 
 caller-hears : (image : List ℕ) (x : Called) (byte : ℕ) (output : List ℕ) → Good x → MayCall x (caller-byte byte output)
     → Led image x (called image x (caller-byte byte output))
 caller-hears image x byte output g may =
-    let own = kept-call (g .c) (g .st) (g .caller-keeps) (g .caller-room) in
-    let same = ap (λ (s : List ℕ). keptHears s byte image output) (g .caller-is) ∙ own .hears-same byte image output in
-    caller-led image x g _ (hostHears (g .c .end) byte image output) same (own .hears-keeps byte image output) (host-byte byte output) may
+    caller-led image x g _ (hostHears (g .c .end) byte image output) (hears-is x g byte image output) (own x g .hears-keeps byte image output)
+    (host-byte byte output) may
     (ap (λ (c : Caller). hostFed (wiredIn x) (hostHears (c .end) byte image output)) (sym (caller-in x g)))
 
 caller-waits : (image : List ℕ) (x : Called) (ms : ℕ) (output : List ℕ) → Good x → Led image x (called image x (caller-time ms output))
 caller-waits image x ms output g =
-    let own = kept-call (g .c) (g .st) (g .caller-keeps) (g .caller-room) in
-    let same = ap (λ (s : List ℕ). keptWaits s ms image output) (g .caller-is) ∙ own .waits-same ms image output in
-    caller-led image x g _ (hostWaits (g .c .end) ms image output) same (own .waits-keeps ms image output) (host-time ms output) tt
+    caller-led image x g _ (hostWaits (g .c .end) ms image output) (waits-is x g ms image output) (own x g .waits-keeps ms image output)
+    (host-time ms output) tt
     (ap (λ (c : Caller). hostFed (wiredIn x) (hostWaits (c .end) ms image output)) (sym (caller-in x g)))
 
 -- ---- a call of the post
@@ -334,18 +344,17 @@ unfolding calledStep
 call-done kind image before x g i (post-byte byte reply) may d = absurd (omega (arith, d))
 call-done kind image before x g i (post-time ms reply) may d = absurd (omega (arith, d))
 call-done kind image before x g i (caller-byte byte output) may d =
-    let own = kept-call (g .c) (g .st) (g .caller-keeps) (g .caller-room) in
-    let same = ap (λ (s : List ℕ). keptHears s byte image output) (g .caller-is) ∙ own .hears-same byte image output in
     let may-here : Sent (x .from-board) (completes (g .c .end .reader) byte) = rw (caller-in x g) at may in
     let bytes : (f : Frame) → List·Memᴰ f (completes (g .c .end .reader) byte) → Bytes (f .payload) = λ f m. may-here f m .1 in
     i .done-noticed (host-byte byte output) may
     (rw (caller-in x g)
-    (hears-tells (g .c .end) byte image output (g .caller-keeps .arisen) bytes (sym (ap (λ (k : Kept). k .answer) same) ∙ d)))
+    (hears-tells (g .c .end) byte image output (g .caller-keeps .arisen) bytes
+    (sym (ap (λ (k : Kept). k .answer) (hears-is x g byte image output)) ∙ d)))
 call-done kind image before x g i (caller-time ms output) may d =
-    let own = kept-call (g .c) (g .st) (g .caller-keeps) (g .caller-room) in
-    let same = ap (λ (s : List ℕ). keptWaits s ms image output) (g .caller-is) ∙ own .waits-same ms image output in
     i .done-noticed (host-time ms output) tt
-    (rw (caller-in x g) (waits-tells (g .c .end) ms image output (g .caller-keeps .arisen) (sym (ap (λ (k : Kept). k .answer) same) ∙ d)))
+    (rw (caller-in x g)
+    (waits-tells (g .c .end) ms image output (g .caller-keeps .arisen)
+    (sym (ap (λ (k : Kept). k .answer) (waits-is x g ms image output)) ∙ d)))
 
 -- ---- L1 of the calls
 

@@ -1,15 +1,16 @@
 -- Wrong calls of one end, the rest ours, and a proof for each that L1 of the calls fails of it, by a run of no or one call over small lists.
-use Prim.Native.Nat.{ℕ, _^_, _≤_, _<_}
+use Prim.Native.Nat.{ℕ, _^_, _<_}
 use mathlib.Core.List.{List, [], _∷_, List·Memᴰ}
 use mathlib.Core.Logic.{inl}
 use mathlib.Core.Path.{_≡_, refl, sym, ap, _∙_}
 use native.Mathlib.Omega.{arith}
-use lib.ListN.{length, drop, getD, replicate, length-replicate}
+use lib.ListN.{length, drop, getD}
 use Rattle.octets.specs.Octets.{laid}
 use Rattle.kinds.specs.Kinds as kinds
 use Rattle.kinds.specs.Kinds.{numberOf}
 use Rattle.kinds.specs.declared.Kind.{Kind}
 use Rattle.kinds.specs.declared.Kind.the-variants as kind
+use Rattle.flat.specs.Backs.{zeros, zeros-room}
 use Rattle.wire.specs.Frame.{Frame}
 use Rattle.reader.specs.Moves as moves
 use Rattle.reader.specs.Reader as reader
@@ -47,15 +48,8 @@ ones = 1 ∷ 1 ∷ 1 ∷ 1 ∷ []
 blank : List ℕ
 blank = 0 ∷ 0 ∷ 0 ∷ 0 ∷ 0 ∷ 0 ∷ 0 ∷ 0 ∷ []
 
-bytes : ℕ → List ℕ
-bytes n = replicate n 0
-
 wishes : Wishes
 wishes = record { first = R9600; wish = 1024; start = WithText; same = GoOn }
-
-room-of : (n : ℕ) → n ≤ length (bytes n)
-unfolding bytes
-room-of n = rw (length-replicate {A = ℕ} n 0) (omega arith)
 
 short-blank : length blank < 2 ^ 64
 unfolding blank
@@ -70,18 +64,18 @@ unfolding wishes
 short-wish = omega arith
 
 waiting-keeps : Keeps waitingPost
-waiting-keeps = kept-made (bytes postBytes) blank (room-of postBytes) short-blank .1
+waiting-keeps = kept-made (zeros postBytes) blank (zeros-room postBytes) short-blank .1
 
 start : Kind → Called
-start k = begun (keptOpened (bytes callerBytes) (numberOf k) wishes ones []) (postKept waitingPost (bytes postBytes)) blank
+start k = begun (keptOpened (zeros callerBytes) (numberOf k) wishes ones []) (postKept waitingPost (zeros postBytes)) blank
 
 -- What the promise says of some calls from there.
 promised : (e : Ends) → FileByCallsOf e → (k : Kind) (calls : List Call) → MayBy e ones (start k) calls
     → InFlashByCalls e k ones blank (allBy e ones (start k) calls)
 unfolding start
 promised e promise k calls may =
-    promise k wishes ones [] (bytes callerBytes) waitingPost (bytes postBytes) blank calls (room-of callerBytes) short-ones short-wish
-    (room-of postBytes) waiting-keeps short-blank may
+    promise k wishes ones [] (zeros callerBytes) waitingPost (zeros postBytes) blank calls (zeros-room callerBytes) short-ones short-wish
+    (zeros-room postBytes) waiting-keeps short-blank may
 
 -- ---- a view that says 6 at once
 
@@ -128,8 +122,8 @@ none-complete = fresh-complete
 pub scribbles-refuted : FileByCallsOf scribbles → ⊥
 unfolding scribbles start blank
 scribbles-refuted promise =
-    let back = post-back.kept-back waitingPost (bytes postBytes) waiting-keeps (room-of postBytes) .0 in
-    let may : Sent (start kind.Navigation .from-host) (completes (postIn (postKept waitingPost (bytes postBytes)) .board .reader) 0) =
+    let back = post-back.kept-back waitingPost (zeros postBytes) waiting-keeps (zeros-room postBytes) .0 in
+    let may : Sent (start kind.Navigation .from-host) (completes (postIn (postKept waitingPost (zeros postBytes)) .board .reader) 0) =
     rw (back, none-complete) (λ f m. absurd (nobody f m)) in
     let touched = promised scribbles promise kind.Navigation (post-byte 0 [] ∷ []) ((λ _. may), tt) .elsewhere 0 (inl (omega arith)) in
     let first : _≡_ {A = ℕ} 9 0 = touched in omega (arith, first)
@@ -162,8 +156,8 @@ ended = refl
 begun-in : callerIn (start kind.Upgrade .caller) ≡ callerOf (openingOf (numberOf kind.Upgrade) wishes ones [] .session)
 unfolding start
 begun-in =
-    let own = kept-opening (bytes callerBytes) (numberOf kind.Upgrade) wishes ones [] (room-of callerBytes) short-ones short-wish in
-    ap (λ o. callerIn (o .state)) (own .0) ∙ caller-back.kept-back _ (bytes callerBytes) (own .1) (room-of callerBytes) .0
+    let own = kept-opening (zeros callerBytes) (numberOf kind.Upgrade) wishes ones [] (zeros-room callerBytes) short-ones short-wish in
+    ap (λ o. callerIn (o .state)) (own .0) ∙ caller-back.kept-back _ (zeros callerBytes) (own .1) (zeros-room callerBytes) .0
 
 -- So its view does not say 6.
 not-six : ours .stage (start kind.Upgrade .caller) ≡ restartingStage → ⊥

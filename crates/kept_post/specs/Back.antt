@@ -1,11 +1,11 @@
 -- A post is read from its bytes as it was.
-use Prim.Native.Nat.{ℕ, _+_, _*_, _-_, _≤_, _<_}
-use mathlib.Core.List.{List, [], _∷_}
+use Prim.Native.Nat.{ℕ, _+_, _*_, _-_, _≤_}
+use mathlib.Core.List.{List}
 use mathlib.Core.Path.{_≡_, refl, ap, _∙_}
 use native.Mathlib.Omega.{arith}
 use lib.ListN.{length, drop}
 use Rattle.octets.specs.Octets.{numberAt}
-use Rattle.flat.specs.Found.{Words, ReadAt, eight-back}
+use Rattle.flat.specs.Found.{Words, eight-back}
 use Rattle.posts.specs.declared.post.Post.{Post}
 use Rattle.kept_reader.specs.Beside.{besideOf, BesideBack, beside-back}
 use Rattle.kept_module.specs.Record.{recordBytes}
@@ -19,37 +19,29 @@ counts-small : (p : Post) → Words (countsOf p)
 counts-small p = (omega arith, (omega arith, (omega arith, tt)))
 
 module _ (p : Post) (st : List ℕ) (k : Keeps p) (room : postBytes ≤ length st) where
-  fits : sessionPlace + 4 * length (wordsOf (p .board .session)) ≤ length st
-  fits = rw (words-count (p .board .session)) (omega (arith, room))
-
-  all : List ℕ
+  abbrev all : List ℕ
   all = besideOf (p .board .reader) (countsOf p) sessionPlace (wordsOf (p .board .session)) st
 
   found : BesideBack (p .board .reader) (countsOf p) (wordsOf (p .board .session)) st sessionPlace
   found =
-      beside-back (p .board .reader) (countsOf p) (wordsOf (p .board .session)) st sessionPlace (k .whole) (counts-small p) refl fits
-
-  words : ReadAt all seenPlace (countsOf p)
-  unfolding all
-  words = found .words
+      beside-back _ _ _ st sessionPlace (k .whole) (counts-small p) refl (rw (words-count (p .board .session)) (omega (arith, room)))
 
   seen-back : numberAt 4 all seenPlace ≡ p .seen
-  seen-back = omega (arith, words .0, k .seen-small)
+  seen-back = omega (arith, found .words .0, k .seen-small)
 
   dropped-back : numberAt 8 all droppedPlace ≡ p .dropped
-  dropped-back = eight-back all droppedPlace (p .dropped) (k .dropped-small) (words .1 .0) (words .1 .1 .0)
+  dropped-back = eight-back all droppedPlace (p .dropped) (k .dropped-small) (found .words .1 .0) (found .words .1 .1 .0)
 
   session-back : sessionIn (drop sessionPlace all) ≡ p .board .session
-  unfolding all
   session-back =
       let s = p .board .session in
       let long : recordBytes ≤ length (drop sessionPlace st) = omega (arith, found .room, words-count s) in
       ap sessionIn (found .behind) ∙ session.kept-back s (drop sessionPlace st) (k .arisen) (k .flash-small) long .1
 
   back : postIn all ≡ p
-  unfolding postIn all
+  unfolding postIn
   back = rw (found .reader, seen-back, dropped-back, session-back)
 
 pub kept-back : KeptBack
-unfolding postKept all
+unfolding postKept
 kept-back p st k room = (back p st k room, found p st k room .long)

@@ -4,9 +4,10 @@ use mathlib.Core.Bool.{Bool, cond}
 use mathlib.Core.List.{List, [], _∷_}
 use mathlib.Core.Path.{_≡_, sym, ap, _∙_}
 use native.Mathlib.Omega.{arith}
-use lib.ListN.{length, replicate, length-replicate}
+use lib.ListN.{length, replicate}
 use Rattle.octets.specs.Octets.{laid, over, numberAt, little, spelled}
 use Rattle.flat.specs.Answers.{nothing}
+use Rattle.flat.specs.Backs.{zeros, zeros-room, one-kept, unchanged}
 use Rattle.flat.specs.Words.{spelledAll}
 use Rattle.module_model.specs.Phases.{openable, alive}
 use Rattle.module.specs.Session.{openingOf, takes, arises}
@@ -43,16 +44,9 @@ busy-keeps = record {
   dropped-small = omega arith;
 }
 
-zeros : List ℕ
-zeros = replicate postBytes 0
-
-room : postBytes ≤ length zeros
-unfolding zeros
-room = rw (length-replicate {A = ℕ} postBytes 0) (omega arith)
-
 -- Whatever is read back is the post that was kept.
-back-of : (kept : Post → List ℕ → List ℕ) → KeptBackOf kept → postIn (kept busy zeros) ≡ busy
-back-of kept promise = promise busy zeros busy-keeps room .0
+back-of : (kept : Post → List ℕ → List ℕ) → KeptBackOf kept → postIn (kept busy (zeros postBytes)) ≡ busy
+back-of kept promise = promise busy (zeros postBytes) busy-keeps (zeros-room postBytes) .0
 
 -- What is counted is not written.
 pub forgets : Post → List ℕ → List ℕ
@@ -74,16 +68,9 @@ shifts-refuted promise =
 
 -- ---- calls
 
--- Bytes that keep two posts keep one.
-one-kept : (p q : Post) (a b : List ℕ) → Keeps p → Keeps q → postBytes ≤ length a → postBytes ≤ length b
-    → postKept p a ≡ postKept q b → p ≡ q
-one-kept p q a b k l m n same = sym (kept-back p a k m .0) ∙ ap postIn same ∙ kept-back q b l n .0
-
--- So a call that leaves the bytes as they are leaves the post as it was.
-unchanged : (p q : Post) → Keeps p → Keeps q → postKept p zeros ≡ postKept q (postKept p zeros) → p ≡ q
-unchanged p q k l same =
-    let long : postBytes ≤ length (postKept p zeros) = rw (kept-back p zeros k room .1) room in
-    one-kept p q zeros (postKept p zeros) k l room long same
+-- A call that leaves the bytes as they are leaves the post as it was.
+as-it-was : (a b : Post) → Keeps a → Keeps b → postKept a (zeros postBytes) ≡ postKept b (postKept a (zeros postBytes)) → a ≡ b
+as-it-was a b k l = unchanged Keeps postBytes postKept postIn kept-back a b (zeros postBytes) k l (zeros-room postBytes)
 
 -- Nothing happens at such a call.
 pub idle : Moves
@@ -102,9 +89,9 @@ no-payload o f m = absurd (let z : _≡_ {A = ℕ} 0 1 = ap (λ (b : Bool). cond
 pub deaf-refuted : KeptCallOf idle keptWaits → ⊥
 unfolding idle
 deaf-refuted promise =
-    let said = promise busy zeros busy-keeps room in
+    let said = promise busy (zeros postBytes) busy-keeps (zeros-room postBytes) in
     let keeps = said .hears-keeps 0 [] [] no-payload (omega arith) in
-    forgotten (unchanged busy _ busy-keeps keeps (ap (λ (k : Kept). k .state) (said .hears-same 0 [] [])))
+    forgotten (as-it-was busy _ busy-keeps keeps (ap (λ (k : Kept). k .state) (said .hears-same 0 [] [])))
 
 -- No time passes, for a post with a session over a flash of one byte.
 flash : List ℕ
@@ -119,7 +106,7 @@ ready = openedPost waitingPost flash
 
 ready-keeps : Keeps ready
 unfolding ready
-ready-keeps = kept-made zeros flash room small .3
+ready-keeps = kept-made (zeros postBytes) flash (zeros-room postBytes) small .3
 
 reply : List ℕ
 reply = replicate 64 0
@@ -131,8 +118,8 @@ counted same = let idles : _≡_ {A = ℕ} 0 1 = ap (λ (p : Post). p .board .se
 pub timeless-refuted : KeptCallOf keptHears idle → ⊥
 unfolding idle
 timeless-refuted promise =
-    let said = promise ready zeros ready-keeps room in
-    counted (unchanged ready _ ready-keeps (said .waits-keeps 1 flash reply) (ap (λ (k : Kept). k .state) (said .waits-same 1 flash reply)))
+    let said = promise ready (zeros postBytes) ready-keeps (zeros-room postBytes) in
+    counted (as-it-was ready _ ready-keeps (said .waits-keeps 1 flash reply) (ap (λ (k : Kept). k .state) (said .waits-same 1 flash reply)))
 
 -- ---- the makings
 
@@ -145,13 +132,13 @@ unfolding busy waitingPost
 dropped-none same = let dropped : _≡_ {A = ℕ} 5 0 = ap (λ (p : Post). p .dropped) same in omega (arith, dropped)
 
 waiting-keeps : Keeps waitingPost
-waiting-keeps = kept-made zeros [] room (omega arith) .1
+waiting-keeps = kept-made (zeros postBytes) [] (zeros-room postBytes) (omega arith) .1
 
 pub leaves-refuted : KeptMadeOf leaves keptOpening → ⊥
 unfolding leaves
 leaves-refuted promise =
-    let long : postBytes ≤ length (postKept busy zeros) = rw (kept-back busy zeros busy-keeps room .1) room in
-    dropped-none (unchanged busy waitingPost busy-keeps waiting-keeps (promise (postKept busy zeros) [] long (omega arith) .0))
+    let long : postBytes ≤ length (postKept busy (zeros postBytes)) = rw (kept-back busy (zeros postBytes) busy-keeps (zeros-room postBytes) .1) (zeros-room postBytes) in
+    dropped-none (as-it-was busy waitingPost busy-keeps waiting-keeps (promise (postKept busy (zeros postBytes)) [] long (omega arith) .0))
 
 -- No session is opened.
 pub shut : Opens
@@ -164,5 +151,5 @@ flash-looked-at same = let size : _≡_ {A = ℕ} 0 1 = ap (λ (p : Post). p .bo
 pub shut-refuted : KeptMadeOf keptNew shut → ⊥
 unfolding shut ready
 shut-refuted promise =
-    let said = promise zeros flash room small in
-    flash-looked-at (one-kept waitingPost ready zeros zeros waiting-keeps ready-keeps room room (sym (said .0) ∙ said .2))
+    let said = promise (zeros postBytes) flash (zeros-room postBytes) small in
+    flash-looked-at (one-kept Keeps postBytes postKept postIn kept-back waitingPost ready (zeros postBytes) (zeros postBytes) waiting-keeps ready-keeps (zeros-room postBytes) (zeros-room postBytes) (sym (said .0) ∙ said .2))
