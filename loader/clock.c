@@ -1,8 +1,4 @@
 /* A clock that never goes back. */
-#define _GNU_SOURCE
-#include <errno.h>
-#include <time.h>
-
 #include "loader.h"
 
 int64_t clock_us(void) {

@@ -1,11 +1,8 @@
 /* A UBF file: read whole, walked and listed. */
-#include <errno.h>
-#include <getopt.h>
-#include <stdio.h>
-#include <stdlib.h>
-#include <string.h>
-
 #include "loader.h"
+
+static uint8_t file[524289]; /* one more than the largest has */
+static size_t file_length;
 
 static const char help[] =
     "usage: zrnkobal list FILE.ubf\n"
@@ -17,21 +14,21 @@ static const char help[] =
     "exit status: 0 the file is whole; 2 usage, or a faulty file\n";
 
 /* A file that can't be read, or is larger than any that is taken, ends the program. */
-void file_read(struct file *file, const char *name) {
+void file_read(const char *name) {
     FILE *from = fopen(name, "rb");
-    if (from != NULL) file->length = fread(file->bytes, 1, sizeof file->bytes, from);
+    if (from != NULL) file_length = fread(file, 1, sizeof file, from);
     if (from == NULL || ferror(from)) exit(fail(WRONG, "%s: %s", name, strerror(errno)));
-    if (file->length == sizeof file->bytes) exit(fail(WRONG, "%s: larger than 524,288 bytes, the largest file that is taken", name));
+    if (file_length == sizeof file) exit(fail(WRONG, "%s: larger than 524,288 bytes, the largest file that is taken", name));
     fclose(from);
 }
 
 /* The n-th block, from 0: ZRN_FOUND, ZRN_PAST with how many there are, or a refusal with the place of the faulty one. */
-uint8_t file_block(const struct file *file, size_t n, struct block *block) {
+uint8_t file_block(size_t n, struct block *block) {
     size_t at;
-    uint8_t answer = zrn_ubf_block_at(file->bytes, file->length, n, &block->type, &block->length, &block->start, &block->check,
-                                      &block->place, &block->count);
-    block->bytes = file->bytes + block->place;
-    block->left = file->length - block->place;
+    uint8_t answer = zrn_ubf_block_at(file, file_length, n, &block->type, &block->length, &block->start, &block->check, &block->place,
+                                      &block->count);
+    block->bytes = file + block->place;
+    block->left = file_length - block->place;
     zrn_type_address(block->type, &block->address);
     zrn_ubf_image(block->bytes, block->left, block->start, block->length, &at);
     block->image = block->bytes + at;
@@ -55,12 +52,11 @@ static void show_block(size_t nth, const struct block *block) {
 }
 
 int list_main(int argc, char **argv) {
-    static struct file file;
     struct block block;
     uint8_t answer;
     take_options(argc, argv, "h", &(struct choice){0}, 1, help);
-    file_read(&file, argv[optind]);
-    for (size_t n = 0; (answer = file_block(&file, n, &block)) == ZRN_FOUND; n++) show_block(n + 1, &block);
+    file_read(argv[optind]);
+    for (size_t n = 0; (answer = file_block(n, &block)) == ZRN_FOUND; n++) show_block(n + 1, &block);
     size_t good = block.count;
     if (answer == ZRN_PAST) return printf("%zu good, the file is whole\n", good), LOADED;
     printf("block %zu: %s, at byte %zu of the file\n%zu good before it\n", good + 1, refusal_words(answer), block.place, good);

@@ -1,7 +1,4 @@
 /* The blocks of a UBF file, one after another. */
-#include <getopt.h>
-#include <stdio.h>
-
 #include "loader.h"
 
 static const char help[] =
@@ -25,11 +22,11 @@ static const char help[] =
     "  zrnkobal load /dev/ttyUSB0 app.ubf\n";
 
 /* A block that is not done is the last one. */
-static int load_blocks(const struct file *file, struct talk *talk) {
+static int load_blocks(struct talk *talk) {
     size_t packets = 0, resent = 0;
     int64_t begun = clock_us();
     for (talk->nth = 1; talk->nth <= talk->blocks; talk->nth++) {
-        file_block(file, talk->nth - 1, &talk->block);
+        file_block(talk->nth - 1, &talk->block);
         printf("block %zu of %zu: %s, address 0x%08X, length %u\n", talk->nth, talk->blocks, kind_words(talk->block.type),
                talk->block.address, talk->block.length);
         fflush(stdout);
@@ -46,7 +43,6 @@ static int load_blocks(const struct file *file, struct talk *talk) {
 
 /* Nothing is sent of a file that has a faulty block. */
 int load_main(int argc, char **argv) {
-    static struct file file;
     static struct talk talk = {.base = 9600, .top = 115200};
     const struct choice choices[] = {
         {'b', "baud", &talk.base, 4800, 115200}, {'r', "rate", &talk.top, 9600, 115200}, {'p', "piece", &talk.piece, 1, 1024},
@@ -55,15 +51,15 @@ int load_main(int argc, char **argv) {
     rate_number(talk.base);
     rate_number(talk.top);
     const char *name = argv[optind + 1];
-    file_read(&file, name);
-    uint8_t answer = file_block(&file, file.length, &talk.block);
+    file_read(name);
+    uint8_t answer = file_block(SIZE_MAX, &talk.block);
     talk.blocks = talk.block.count;
     if (answer != ZRN_PAST)
         return fail(WRONG, "%s: block %zu: %s, at byte %zu of the file; nothing was sent", name, talk.blocks + 1, refusal_words(answer),
                     talk.block.place);
     catch_signals();
     port_open(&talk.port, argv[optind], talk.base);
-    int status = load_blocks(&file, &talk);
+    int status = load_blocks(&talk);
     port_close(&talk.port);
     return status;
 }

@@ -2,8 +2,21 @@
 #ifndef LOADER_H
 #define LOADER_H
 
+#define _GNU_SOURCE
+#include <errno.h>
+#include <fcntl.h>
+#include <getopt.h>
+#include <poll.h>
 #include <signal.h>
+#include <stdarg.h>
+#include <stdio.h>
+#include <stdlib.h>
+#include <string.h>
+#include <sys/file.h>
+#include <sys/ioctl.h>
 #include <termios.h>
+#include <time.h>
+#include <unistd.h>
 
 #include "zrnkobal.h"
 
@@ -45,19 +58,15 @@ void port_send(struct port *port, const uint8_t *bytes, size_t count);
 size_t port_hear(struct port *port, uint8_t *bytes, size_t room, int64_t *when);
 void port_close(struct port *port);
 
-/* file.c: a UBF file and its blocks. */
-struct file {
-    uint8_t bytes[524289]; /* one more than the largest has */
-    size_t length;
-};
+/* file.c: the UBF file and its blocks. */
 struct block {
     uint16_t type;
     uint32_t length, start, check, address;
     const uint8_t *bytes, *image;
     size_t place, left, count; /* where it begins, bytes from there to the file's end; good blocks before a faulty one, or in all */
 };
-void file_read(struct file *file, const char *name);
-uint8_t file_block(const struct file *file, size_t n, struct block *block);
+void file_read(const char *name);
+uint8_t file_block(size_t n, struct block *block);
 int list_main(int argc, char **argv);
 
 /* load.c, talk.c: the blocks of a file, and one block over the port. */

@@ -1,9 +1,4 @@
 /* zrnkobal: loads firmware into a GNSS module over a serial port; every rule of the protocol is in the proved library. */
-#include <getopt.h>
-#include <stdio.h>
-#include <stdlib.h>
-#include <string.h>
-
 #include "loader.h"
 
 static const char help[] =

@@ -1,14 +1,4 @@
 /* A serial port: opened for this process alone, set, written to and read, and given back as it was. */
-#define _GNU_SOURCE
-#include <errno.h>
-#include <fcntl.h>
-#include <poll.h>
-#include <stdlib.h>
-#include <string.h>
-#include <sys/file.h>
-#include <sys/ioctl.h>
-#include <unistd.h>
-
 #include "loader.h"
 
 #define TURN_MS 5        /* how long a read waits for bytes */

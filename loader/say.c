@@ -1,8 +1,4 @@
 /* Words for a person: progress on standard output, details and failures on standard error. */
-#include <stdarg.h>
-#include <stdio.h>
-#include <unistd.h>
-
 #include "loader.h"
 
 #define SHOW_US 200000 /* between two looks of the progress line */

@@ -1,15 +1,4 @@
 /* A module on a pseudo-terminal, over a flash that is a file. */
-#define _GNU_SOURCE
-#include <errno.h>
-#include <fcntl.h>
-#include <getopt.h>
-#include <poll.h>
-#include <stdio.h>
-#include <stdlib.h>
-#include <string.h>
-#include <sys/ioctl.h>
-#include <unistd.h>
-
 #include "loader.h"
 
 #define FLASH 262144   /* the largest flash */
@@ -32,10 +21,14 @@ static const char help[] =
     "Ends by Ctrl-C. exit status: 0; 2 usage, or the flash file\n";
 
 /* One way of the line: bytes under way, each with the rate it was sent at (0: one that no module has) and when it has arrived. */
+struct passing {
+    uint8_t byte;
+    long baud;
+    int64_t due;
+};
 struct way {
-    uint8_t bytes[UNDER_WAY];
-    long bauds[UNDER_WAY];
-    int64_t dues[UNDER_WAY], last;
+    struct passing under_way[UNDER_WAY];
+    int64_t last;
     size_t head, count;
     unsigned short noise[3]; /* its own, so that neither way depends on when the other is used */
 };
@@ -58,21 +51,18 @@ static struct {
 /* A byte begins its way at this time, or behind the last one. What finds no room is lost. */
 static void put(struct way *way, uint8_t byte, long baud, int64_t from) {
     if (way->count == UNDER_WAY) return;
-    size_t at = (way->head + way->count++) % UNDER_WAY;
     way->last = clock_later(way->last, from) + rate_us(baud != 0 ? baud : 9600, 1);
-    way->bytes[at] = byte;
-    way->bauds[at] = baud;
-    way->dues[at] = way->last;
+    way->under_way[(way->head + way->count++) % UNDER_WAY] = (struct passing){byte, baud, way->last};
 }
 
 /* What arrives of the byte that is due, at an end with this rate: at another one it is noise; else it may be hit, lost or inserted to. */
 static size_t take(struct way *way, long baud, uint8_t out[2]) {
     long chance = nrand48(way->noise), random = nrand48(way->noise);
-    size_t at = way->head;
-    way->head = (at + 1) % UNDER_WAY;
+    struct passing next = way->under_way[way->head];
+    way->head = (way->head + 1) % UNDER_WAY;
     way->count--;
-    out[0] = out[1] = way->bytes[at];
-    if (way->bauds[at] != baud) return out[0] = (uint8_t)random, 1;
+    out[0] = out[1] = next.byte;
+    if (next.baud != baud) return out[0] = (uint8_t)random, 1;
     if (chance % 100000 >= module.noise) return 1;
     if (random % 3 == 0) return out[0] ^= (uint8_t)(1 + random / 3 % 255), 1; /* a hit byte is always another one */
     return out[0] = (uint8_t)(random / 3), random % 3 == 1 ? 0 : 2;
@@ -85,12 +75,6 @@ static long host_baud(void) {
     for (uint8_t i = 0; i <= 5; i++)
         if (rate_speed(rate_baud(i)) == cfgetospeed(&modes)) return rate_baud(i);
     return 0;
-}
-
-static struct view look(void) {
-    struct view now;
-    now.stand = zrn_post_view(module.post, sizeof module.post, &now.type, &now.base, &now.length, &now.written, &now.dropped, &now.idle);
-    return now;
 }
 
 /* What has changed since the last look. */
@@ -109,16 +93,15 @@ static void tell(const struct view *now) {
 static void keep(const struct view *now) {
     if (now->written <= module.view.written) return;
     size_t at = now->base + module.view.written, count = now->written - module.view.written;
-    if (pwrite(module.file, module.flash + at, count, (off_t)at) != (ssize_t)count) {
-        fputs("simulate: the flash file could not be written; nothing was answered\n", stderr);
-        exit(WRONG);
-    }
+    if (pwrite(module.file, module.flash + at, count, (off_t)at) != (ssize_t)count)
+        exit(fail(WRONG, "the flash file could not be written; nothing was answered"));
     module.packets++;
 }
 
 /* After a call of the post: words, file, reply, and the rate that the module has once the reply has left. */
 static void after(int64_t when) {
-    struct view now = look();
+    struct view now;
+    now.stand = zrn_post_view(module.post, sizeof module.post, &now.type, &now.base, &now.length, &now.written, &now.dropped, &now.idle);
     uint8_t agreed = zrn_rate_agreed(module.reply, module.count);
     tell(&now);
     keep(&now);
@@ -133,8 +116,8 @@ static void after(int64_t when) {
 static void hear(int64_t now) {
     uint8_t bytes[2];
     int64_t ms = (now - module.mark) / 1000;
-    while (module.in.count > 0 && module.in.dues[module.in.head] <= now) {
-        int64_t when = module.in.dues[module.in.head];
+    while (module.in.count > 0 && module.in.under_way[module.in.head].due <= now) {
+        int64_t when = module.in.under_way[module.in.head].due;
         for (size_t i = 0, heard = take(&module.in, module.baud, bytes); i < heard; i++) {
             zrn_post_hear(module.post, sizeof module.post, bytes[i], module.flash, module.size, module.reply, sizeof module.reply,
                           &module.count);
@@ -152,7 +135,7 @@ static void hear(int64_t now) {
 static void speak(int64_t now) {
     uint8_t bytes[2];
     long baud = module.out.count > 0 ? host_baud() : 0;
-    while (module.out.count > 0 && module.out.dues[module.out.head] <= now) {
+    while (module.out.count > 0 && module.out.under_way[module.out.head].due <= now) {
         size_t count = take(&module.out, baud, bytes);
         if (count > 0 && write(module.master, bytes, count) < 0 && errno != EAGAIN) return;
     }

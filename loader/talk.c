@@ -1,6 +1,4 @@
 /* One block over the port: bytes and time go to the proved calls, and what they write goes to the port at the rate they say. */
-#include <stdlib.h>
-
 #include "loader.h"
 
 /* What the caller's view says now. An ended session keeps the stage that it ended in. */
