@@ -82,7 +82,8 @@ uint8_t zrn_frame_write(uint8_t command, const uint8_t *payload, size_t payload_
 /* Whether these bytes are the content of a frame that a reader hands out. */
 bool zrn_frame_is_content(const uint8_t *content, size_t content_length);
 
-/* The escape: whether a byte may follow DC, and the byte of content that it then stands for: DB for CB, DC for CC, else DE. */
+/* The escape: whether a byte may follow DC (CB, CC and CE may), and the byte of content that it then stands for: the same with bit 4
+   inverted, so DB, DC or DE. For a byte that may not follow the second call answers DE. */
 bool zrn_escape_may_follow(uint8_t byte);
 uint8_t zrn_escape_original(uint8_t byte);
 

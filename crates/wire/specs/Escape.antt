@@ -1,7 +1,8 @@
--- The marks of the wire, and how a content byte that looks like one is escaped. This file alone knows the pairs.
+-- The marks of the wire, and how a content byte that looks like one is escaped. This file alone knows the mask; Pairs has document 01's table.
 use Prim.Native.Nat.{ℕ}
 use mathlib.Core.Bool.{Bool, cond, _||_}
 use mathlib.Core.List.{List, [], _∷_, _++_}
+use lib.Bits.{bitXor}
 use lib.Dec.{eqb}
 
 -- Every frame begins with the head.
@@ -16,6 +17,10 @@ escapeMark = 0xDC
 abbrev pub tailMark : ℕ
 tailMark = 0xDE
 
+-- A marked byte has bit 4 inverted behind the escape, and the same inverts it back.
+abbrev pub escapeMask : ℕ
+escapeMask = 0x10
+
 abbrev pub oneOf : ℕ → ℕ → ℕ → ℕ → Bool
 oneOf b x y z = eqb b x || (eqb b y || eqb b z)
 
@@ -23,17 +28,17 @@ oneOf b x y z = eqb b x || (eqb b y || eqb b z)
 unfoldable pub isMark : ℕ → Bool
 isMark b = oneOf b headMark escapeMark tailMark
 
--- What follows the escape: CB for DB, CC for DC, CE for DE.
+-- What follows the escape in place of a mark.
 unfoldable pub secondOf : ℕ → ℕ
-secondOf b = cond (eqb b headMark) 0xCB (cond (eqb b escapeMark) 0xCC 0xCE)
+secondOf b = bitXor b escapeMask
 
--- These bytes may follow the escape.
+-- DC must be followed by CB, CC or CE.
 unfoldable pub mayFollow : ℕ → Bool
 mayFollow b = oneOf b 0xCB 0xCC 0xCE
 
--- The content byte that the escape and this byte stand for.
+-- The content byte that the escape and this byte stand for; DE where it may not follow.
 unfoldable pub originalOf : ℕ → ℕ
-originalOf b = cond (eqb b 0xCB) headMark (cond (eqb b 0xCC) escapeMark tailMark)
+originalOf b = cond (mayFollow b) (bitXor b escapeMask) tailMark
 
 -- One content byte on the wire.
 unfoldable pub escapeOf : ℕ → List ℕ

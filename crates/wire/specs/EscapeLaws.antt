@@ -1,4 +1,4 @@
--- The laws of the escape. What stands above cites these and never the pairs themselves.
+-- The laws of the escape. What stands above cites these and never the mask itself.
 use Prim.Native.Nat.{ℕ, _*_, _≤_, _<_}
 use mathlib.Core.Bool.{Bool, true, false, _||_, false≢true, true≢false}
 use mathlib.Core.List.{List, [], _∷_, _++_, append-assoc, append-nil}
@@ -8,7 +8,7 @@ use borrow.Author.Tests.{eqb-true}
 use lib.Dec.{eqb}
 use lib.ListN.{length, length-append}
 use Rattle.octets.specs.Choice.{either-way}
-use Rattle.wire.specs.Escape.{headMark, escapeMark, tailMark, isMark, secondOf, mayFollow, originalOf, escapeOf, escaped}
+use Rattle.wire.specs.Escape.{headMark, escapeMark, tailMark, oneOf, isMark, secondOf, mayFollow, originalOf, escapeOf, escaped}
 
 -- Where neither of two tests holds, the first does not.
 or-left : (a b : Bool) → (a || b) ≡ false → a ≡ false
@@ -20,15 +20,21 @@ or-right : (a b : Bool) → (a || b) ≡ false → b ≡ false
 or-right true b h = absurd (true≢false h)
 or-right false b h = h
 
--- What holds of three bytes holds of each byte that is one of them.
-one-of : (x y z : ℕ) (P : ℕ → Type 0) → P x → P y → P z → (b : ℕ) → (eqb b x || (eqb b y || eqb b z)) ≡ true → P b
-one-of x y z P at-x at-y at-z b = first (eqb b x) (eqb b y) (eqb b z) refl refl refl
+-- What holds of three bytes and of every other byte holds of each byte.
+pub of-three : (x y z : ℕ) (P : ℕ → Type 0) → P x → P y → P z
+    → ((b : ℕ) → eqb b x ≡ false → eqb b y ≡ false → eqb b z ≡ false → P b) → (b : ℕ) → P b
+of-three x y z P at-x at-y at-z at-other b = first (eqb b x) (eqb b y) (eqb b z) refl refl refl
   where
-    first : (is-x is-y is-z : Bool) → eqb b x ≡ is-x → eqb b y ≡ is-y → eqb b z ≡ is-z → (is-x || (is-y || is-z)) ≡ true → P b
-    first true is-y is-z e f g h = rw (eqb-true b x e) at-x
-    first false true is-z e f g h = rw (eqb-true b y f) at-y
-    first false false true e f g h = rw (eqb-true b z g) at-z
-    first false false false e f g h = absurd (false≢true h)
+    first : (is-x is-y is-z : Bool) → eqb b x ≡ is-x → eqb b y ≡ is-y → eqb b z ≡ is-z → P b
+    first true is-y is-z e f g = rw (eqb-true b x e) at-x
+    first false true is-z e f g = rw (eqb-true b y f) at-y
+    first false false true e f g = rw (eqb-true b z g) at-z
+    first false false false e f g = at-other b e f g
+
+-- What holds of three bytes holds of each byte that is one of them.
+one-of : (x y z : ℕ) (P : ℕ → Type 0) → P x → P y → P z → (b : ℕ) → oneOf b x y z ≡ true → P b
+one-of x y z P at-x at-y at-z =
+    of-three x y z (λ b. oneOf b x y z ≡ true → P b) (λ h. at-x) (λ h. at-y) (λ h. at-z) (λ b e f g h. absurd (false≢true (rw (e, f, g) at h)))
 
 -- A byte that is none of the marks is not escaped.
 pub not-mark : (b : ℕ) → eqb b headMark ≡ false → eqb b escapeMark ≡ false → eqb b tailMark ≡ false → isMark b ≡ false
@@ -70,17 +76,17 @@ second-follows = each-mark (λ b. mayFollow (secondOf b) ≡ true) refl refl ref
 
 -- A mark's second byte stands for that mark.
 pub original-second : (b : ℕ) → isMark b ≡ true → originalOf (secondOf b) ≡ b
-unfolding originalOf secondOf
+unfolding mayFollow originalOf secondOf
 original-second = each-mark (λ b. originalOf (secondOf b) ≡ b) refl refl refl
 
 -- What may follow the escape stands for a mark.
 pub original-mark : (b : ℕ) → mayFollow b ≡ true → isMark (originalOf b) ≡ true
-unfolding isMark originalOf
+unfolding isMark mayFollow originalOf
 original-mark = each-second (λ b. isMark (originalOf b) ≡ true) refl refl refl
 
 -- What may follow the escape is the second byte of what it stands for.
 pub second-original : (b : ℕ) → mayFollow b ≡ true → secondOf (originalOf b) ≡ b
-unfolding secondOf originalOf
+unfolding secondOf mayFollow originalOf
 second-original = each-second (λ b. secondOf (originalOf b) ≡ b) refl refl refl
 
 -- What may follow the escape is no mark itself.
@@ -90,7 +96,7 @@ follow-not-mark = each-second (λ b. isMark b ≡ false) refl refl refl
 
 -- What it stands for is a byte.
 pub original-byte : (b : ℕ) → mayFollow b ≡ true → originalOf b < 256
-unfolding originalOf
+unfolding mayFollow originalOf
 original-byte = each-second (λ b. originalOf b < 256) (omega arith) (omega arith) (omega arith)
 
 -- A mark goes on the wire as the escape and its second byte.

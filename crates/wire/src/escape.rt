@@ -8,6 +8,9 @@ pub const ESCAPE: u8 = 0xDC;
 
 pub const TAIL: u8 = 0xDE;
 
+// The marked byte has bit 4 inverted behind the escape.
+const MASK: u8 = 0x10;
+
 // Whether a content byte has to be escaped.
 pub(crate) fn is_mark(byte: u8) -> bool
     ensures { λ r. ⌜ r ≡ isMark byte ⌝ }
@@ -15,17 +18,11 @@ pub(crate) fn is_mark(byte: u8) -> bool
     one_of(byte, HEAD, ESCAPE, TAIL)
 }
 
-// What follows the escape on the wire.
+// What follows the escape on the wire in place of a mark.
 pub(crate) fn second(byte: u8) -> u8
     ensures { λ r. ⌜ r ≡ secondOf byte ⌝ }
 {
-    if byte == HEAD {
-        0xCB
-    } else if byte == ESCAPE {
-        0xCC
-    } else {
-        0xCE
-    }
+    byte ^ MASK
 }
 
 // Whether a byte may follow the escape.
@@ -35,17 +32,11 @@ pub fn may_follow(byte: u8) -> bool
     one_of(byte, 0xCB, 0xCC, 0xCE)
 }
 
-// The content byte that the escape and this byte stand for.
+// The content byte that the escape and this byte stand for; the tail where it may not follow.
 pub fn original(byte: u8) -> u8
     ensures { λ r. ⌜ r ≡ originalOf byte ⌝ }
 {
-    if byte == 0xCB {
-        HEAD
-    } else if byte == 0xCC {
-        ESCAPE
-    } else {
-        TAIL
-    }
+    if may_follow(byte) { byte ^ MASK } else { TAIL }
 }
 
 fn one_of(byte: u8, x: u8, y: u8, z: u8) -> bool

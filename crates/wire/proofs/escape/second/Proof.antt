@@ -1,20 +1,12 @@
--- `wire::second`: each branch is one case of the definition.
-use borrow.Author.Tests.{ne-eqb}
+-- `wire::escape::second`: the definition is this xor.
+use mathlib.Core.Path.{refl}
 use Rattle.wire.specs.Escape.{secondOf}
 use Rattle.wire.proofs.escape.second.Statement.{statement}
 use Rattle.wire.proofs.escape.second.Tie as tie
 
 returns : tie.Need-returns
 unfolding secondOf
-returns c = rw (c .if1 .taken)
-
-returns-2 : tie.Need-returns-2
-unfolding secondOf
-returns-2 c = rw (c .if2 .taken)
-
-returns-3 : tie.Need-returns-3
-unfolding secondOf
-returns-3 c = rw (ne-eqb _ _ (c .before .if1 .left), ne-eqb _ _ (c .if2 .left))
+returns c = refl
 
 pub second-spec : {M : Type 1} → statement M
-second-spec = tie.close (tie.spec returns returns-2 returns-3)
+second-spec = tie.close (tie.spec returns)
