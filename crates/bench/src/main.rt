@@ -1,4 +1,6 @@
 // Runs the bench examples of document 01 that are run and not proved.
+#![tactic(auto)]
+
 use libc::STDOUT_FILENO;
 use refusals::Written;
 

@@ -1,4 +1,6 @@
 // Lists the blocks of a UBF file: a line a block; at a faulty one its place, the refusal number and its words.
+#![tactic(auto)]
+
 use console::Got;
 use ubf::{Block, Nth};
 

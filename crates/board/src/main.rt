@@ -1,4 +1,6 @@
 // A module on a line, over a flash image file.
+#![tactic(auto)]
+
 mod keep;
 mod say;
 mod station;

@@ -1,5 +1,7 @@
 // A line that a program speaks on: a terminal, or standard input and output. No contract can speak of what an operating system reads
 // or writes; these say what the answers may be, and what the calls do is tested.
+#![tactic(auto)]
+
 ghost use Rattle.std.specs.Prelude.{length};
 ghost use Rattle.cable.specs.Cable.{Opens, Comes};
 

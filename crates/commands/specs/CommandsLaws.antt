@@ -2,8 +2,8 @@
 use Rattle.std.specs.Prelude.{ℕ, ◌+◌, ◌%◌, ◌≤◌, List, [], ◌∷◌, ◌++◌, ◌≡◌, refl, length, take}
 use Rattle.std.proofs.Common.{append-nil, ap, ◌∙◌, arith, length-append}
 use Rattle.octets.specs.Octets.{Pieces, end_to_end, spelled, laid}
-use Rattle.octets.specs.OctetsLaws.{over_nil, over_all, take_over, length_spelled, spelled_rest}
-use Rattle.octets.specs.PartLaws.{Sized, lay_all_law, length_laid, part_most}
+use Rattle.octets.proofs.OctetsLaws.{over_nil, over_all, take_over, length_spelled, spelled_rest}
+use Rattle.octets.proofs.PartLaws.{Sized, lay_all_law, length_laid, part_most}
 use Rattle.kinds.specs.Kinds.{number_of, token_of}
 use Rattle.kinds.specs.declared.Kind.{Kind}
 use Rattle.pieces.specs.Pieces.{count_of, piece_of, offset_of}

@@ -1,4 +1,6 @@
 // The commands of both ends by number, their acknowledgements, the texts before them, and the four commands as the host sends them.
+#![tactic(auto)]
+
 ghost use Rattle.std.specs.Prelude.{◌≡◌};
 ghost use Rattle.wire.specs.Write.{write_of};
 ghost use Rattle.commands.specs.Commands.{rate_frame, parameters_frame, packet_frame, restart_frame};

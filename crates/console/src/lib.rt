@@ -1,5 +1,7 @@
 // What programs print for people, and whole files in and out. No contract can speak of what an operating system reads or writes, so
 // these calls are proved to be safe and to end, and what they do is tested.
+#![tactic(auto)]
+
 mod arguments;
 mod files;
 mod show;

@@ -1,4 +1,6 @@
 // Loads a UBF file over a simulated line with noise, and judges the flash after each block.
+#![tactic(auto)]
+
 mod ending;
 mod verdict;
 

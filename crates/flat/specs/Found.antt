@@ -2,9 +2,9 @@
 use Rattle.std.specs.Prelude.{ℕ, ◌+◌, ◌*◌, ◌/◌, ◌≤◌, ◌<◌, true, List, [], ◌∷◌, ◌++◌, ◌≡◌, refl, ltb, length, take, drop}
 use Rattle.std.proofs.Common.{append_assoc, ap, ◌∙◌, arith, le-ltb, take-append-drop, take_at, drop_at, drop-drop}
 use Rattle.octets.specs.Octets.{spelled, number_at, part_of, over}
-use Rattle.octets.specs.OctetsLaws.{length_spelled, number_four, same_refl, same_true, take_over, over_over, over_all, length_over}
-use Rattle.octets.specs.Choice.{either_way}
-use Rattle.octets.specs.PartLaws.{number_of_part}
+use Rattle.octets.proofs.OctetsLaws.{length_spelled, number_four, same_refl, same_true, take_over, over_over, over_all, length_over}
+use Rattle.octets.proofs.Choice.{either_way}
+use Rattle.octets.proofs.PartLaws.{number_of_part}
 use Rattle.flat.specs.Words.{spelled_all, recorded, stands_for, low_half, high_half}
 use Rattle.flat.specs.WordsLaws.{length_spelled_all, number_eight}
 

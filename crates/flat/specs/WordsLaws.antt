@@ -2,7 +2,7 @@
 use Rattle.std.specs.Prelude.{ℕ, suc, ◌+◌, ◌*◌, ◌/◌, ◌≤◌, ◌<◌, List, [], ◌∷◌, ◌++◌, ◌≡◌, refl, length, take, get_or}
 use Rattle.std.proofs.Common.{append_assoc, append-nil, sym, ap, ◌∙◌, arith, add-one, length-append, take-suc, length-take-le}
 use Rattle.octets.specs.Octets.{spelled, little, number_at, laid, over}
-use Rattle.octets.specs.OctetsLaws.{length_spelled, number_step, over_laid, length_over}
+use Rattle.octets.proofs.OctetsLaws.{length_spelled, number_step, over_laid, length_over}
 use Rattle.flat.specs.Words.{spelled_all}
 
 pub length_spelled_all : (ws : List ℕ) → length (spelled_all ws) ≡ 4 * length ws

@@ -1,4 +1,6 @@
 // What the calls for other languages share: their answers by number, and states as records of four-byte numbers.
+#![tactic(auto)]
+
 pub mod answers;
 pub mod words;
 

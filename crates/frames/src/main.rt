@@ -1,4 +1,6 @@
 // Reads raw bytes from standard input to its end and prints each frame: command, payload count, payload in hex or a dash.
+#![tactic(auto)]
+
 use libc::{STDIN_FILENO, STDOUT_FILENO};
 use reader::{Heard, Reader, Stepped};
 

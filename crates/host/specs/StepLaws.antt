@@ -5,7 +5,7 @@ use Rattle.std.proofs.lemmas.Bool.{false≢true}
 use Rattle.std.proofs.Math.Path.{◌≡◌, sym, ap}
 use Rattle.std.proofs.Common.{◌∙◌, arith, eq-eqb, ne_eqb, lt-ltb, le-ltb}
 use Rattle.std.proofs.Math.ListN.{length}
-use Rattle.octets.specs.Choice.{cond_yes, cond_no, either_way}
+use Rattle.octets.proofs.Choice.{cond_yes, cond_no, either_way}
 use Rattle.octets.specs.Octets.{over}
 use Rattle.refusals.specs.Refusals.{no_room, wrong_length}
 use Rattle.refusals.specs.Written.{Out, refused, written, bytes_written, number_in, count_in}

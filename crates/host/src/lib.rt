@@ -1,4 +1,6 @@
 // The host's session: it loads one block into a module, answer by answer, and says how it ended.
+#![tactic(auto)]
+
 mod messages;
 mod session;
 

@@ -1,4 +1,6 @@
 // Plays the host's session against scripted answers, and prints what is heard, what is sent, and how each load ends.
+#![tactic(auto)]
+
 mod play;
 
 // The most bytes that can be cut into pieces of 4: document 01's example has so many zeros.

@@ -1,7 +1,7 @@
 -- The laws of a text on a line.
 use Rattle.std.specs.Prelude.{ℕ, ◌+◌, ◌≤◌, ◌<◌, List, length}
 use Rattle.std.proofs.Common.{arith, ltb-true}
-use Rattle.octets.specs.Choice.{either_way, both}
+use Rattle.octets.proofs.Choice.{either_way, both}
 use Rattle.host_end.specs.Text.{stands, followed}
 
 -- No more of a text has been heard than it has.

@@ -3,7 +3,7 @@ use Rattle.std.specs.Prelude.{ℕ, ◌+◌, ◌≤◌, ◌<◌, min, true, false
 use Rattle.std.proofs.Math.Bool.{not-eq-not}
 use Rattle.std.proofs.Common.{◌∙◌, arith, le-leb, leb-true, lt-ltb, le-ltb, eq-eqb, ne_eqb, eqb-true}
 use Rattle.std.proofs.Math.Nat.{min-le_left, min-le_right}
-use Rattle.octets.specs.Choice.{cond_yes, cond_no, either_way, both}
+use Rattle.octets.proofs.Choice.{cond_yes, cond_no, either_way, both}
 use Rattle.octets.specs.Octets.{same_bytes}
 use Rattle.refusals.specs.Refusals.{module_refused, bad_notice}
 use Rattle.pieces.specs.Pieces.{count_of}

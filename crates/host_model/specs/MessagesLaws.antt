@@ -2,7 +2,7 @@
 use Rattle.std.specs.Prelude.{ℕ, ◌≤◌, ◌<◌, List, [], ◌≡◌, refl, length}
 use Rattle.std.proofs.Common.{arith, lt-ltb, le-ltb}
 use Rattle.octets.specs.Octets.{laid, over}
-use Rattle.octets.specs.OctetsLaws.{over_nil, over_laid}
+use Rattle.octets.proofs.OctetsLaws.{over_nil, over_laid}
 use Rattle.refusals.specs.Refusals.{no_room}
 use Rattle.refusals.specs.Written.{refused, written}
 use Rattle.wire.specs.Frame.{Frame, longest_payload}

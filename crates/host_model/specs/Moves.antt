@@ -3,7 +3,7 @@ use Rattle.std.specs.Prelude.{ℕ, ◌+◌, ◌≤◌, true, ◌&&◌, List, ◌
 use Rattle.std.proofs.Common.{arith}
 use borrow.Author.Tests.{ltb-true, leb-true}
 use Rattle.std.proofs.Math.Dec.{leb}
-use Rattle.octets.specs.Choice.{either_way, both}
+use Rattle.octets.proofs.Choice.{either_way, both}
 use Rattle.octets.specs.Octets.{number_at, same_bytes}
 use Rattle.pieces.specs.Pieces.{count_of}
 use Rattle.pieces.specs.PiecesLaws.{count_some}

@@ -1,7 +1,7 @@
 -- The laws of Nexts: what follows, and that only small messages do.
 use Rattle.std.specs.Prelude.{ℕ, ◌+◌, ◌-◌, ◌≤◌, ◌<◌, true, false, List, ◌≡◌, ltb, take}
 use Rattle.std.proofs.Common.{arith, lt-ltb, le-ltb}
-use Rattle.octets.specs.Choice.{cond_yes, cond_no, either_way}
+use Rattle.octets.proofs.Choice.{cond_yes, cond_no, either_way}
 use Rattle.refusals.specs.Refusals.{wrong_image_length}
 use Rattle.host_model.specs.Answers.{frame_move, line_move}
 use Rattle.host_model.specs.StagesLaws.{Small, SmallMove}

@@ -2,7 +2,7 @@
 use Rattle.std.specs.Prelude.{ℕ, ◌≤◌, true, false, ◌≡◌, leb}
 use Rattle.std.proofs.Math.Bool.{not-eq-not}
 use Rattle.std.proofs.Common.{sym, arith, leb-true, le-leb}
-use Rattle.octets.specs.Choice.{both}
+use Rattle.octets.proofs.Choice.{both}
 use Rattle.pieces.specs.Pieces.{count_of}
 use Rattle.commands.specs.Commands.{largest_packet, largest_total}
 use Rattle.host_model.specs.Stages.{number_of_rate, rate_fits, size_fits, number_fits, stage_fits}

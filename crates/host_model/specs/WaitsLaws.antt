@@ -2,7 +2,7 @@
 use Rattle.std.specs.Prelude.{ℕ, ◌≤◌, ◌<◌, true, false, List, ◌≡◌, refl, ltb, leb}
 use Rattle.std.proofs.Math.Bool.{not-eq-not}
 use Rattle.std.proofs.Common.{arith, leb-true, le-leb, ltb-true, lt-ltb}
-use Rattle.octets.specs.Choice.{both}
+use Rattle.octets.proofs.Choice.{both}
 use Rattle.kinds.specs.KindsLaws.{file_some}
 use Rattle.kinds.specs.declared.Kind.{Kind}
 use Rattle.host_model.specs.Stages.{stage_fits}

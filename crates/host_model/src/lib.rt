@@ -1,4 +1,6 @@
 // The host's words and rules without a function: what a load is opened with, its stages, what it waits for, and what is true of them.
+#![tactic(auto)]
+
 mod answers;
 mod events;
 mod nexts;

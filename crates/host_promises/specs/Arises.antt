@@ -2,7 +2,7 @@
 use Rattle.std.specs.Prelude.{ℕ, ◌+◌, ◌-◌, ◌≤◌, ◌<◌, true, List, [], ◌∷◌, ◌≡◌, refl, eqb, ltb, length, take}
 use Rattle.std.proofs.Common.{arith}
 use borrow.Author.Tests.{eqb-true, ltb-true}
-use Rattle.octets.specs.Choice.{either_way}
+use Rattle.octets.proofs.Choice.{either_way}
 use Rattle.kinds.specs.Kinds.{kind_of, fits_file}
 use Rattle.kinds.specs.KindsLaws.{file_some}
 use Rattle.kinds.specs.declared.Known.{Known}

@@ -3,7 +3,7 @@ use Rattle.std.specs.Prelude.{ℕ, ◌+◌, ◌^◌, ◌≤◌, ◌<◌, true, L
 use Rattle.std.proofs.Math.Path.{refl, ap}
 use Rattle.std.proofs.Common.{◌∙◌, arith}
 use Rattle.octets.specs.Octets.{spelled, number_at, over}
-use Rattle.octets.specs.OctetsLaws.{little_spelled, same_refl, take_over}
+use Rattle.octets.proofs.OctetsLaws.{little_spelled, same_refl, take_over}
 use Rattle.kinds.specs.Kinds.{number_of, fits_file}
 use Rattle.kinds.specs.KindsLaws.{file_some, kind_of_number}
 use Rattle.kinds.specs.declared.Kind.{Kind}

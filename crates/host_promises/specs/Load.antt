@@ -1,7 +1,7 @@
 -- H4: a host that gets good answers sends each message of the load once, in order, and is done; and H1: the pieces are the image.
 use Rattle.std.specs.Prelude.{ℕ, zero, suc, ◌+◌, ◌*◌, ◌-◌, ◌^◌, ◌≤◌, ◌<◌, true, List, [], ◌∷◌, ◌++◌, ◌≡◌, refl, length, take}
 use Rattle.std.proofs.Common.{append_assoc, append-nil, sym, ap, ap₂, ◌∙◌, add-zero, zero-add, zero-mul, arith}
-use Rattle.octets.specs.OctetsLaws.{take_over}
+use Rattle.octets.proofs.OctetsLaws.{take_over}
 use Rattle.kinds.specs.Kinds.{number_of, fits_file}
 use Rattle.kinds.specs.KindsLaws.{file_some}
 use Rattle.kinds.specs.declared.Kind.{Kind}

@@ -8,7 +8,7 @@ use borrow.Author.Tests.{lt-ltb, le-ltb}
 use Rattle.std.proofs.lemmas.List.{length-replicate}
 use Rattle.std.proofs.Math.Seq.{take-length}
 use Rattle.octets.specs.Octets.{Bytes, spelled}
-use Rattle.octets.specs.Lists.{bytes_append, bytes_replicate, bytes_spelled}
+use Rattle.octets.proofs.Lists.{bytes_append, bytes_replicate, bytes_spelled}
 use Rattle.kinds.specs.Kinds.{kind_of, number_of, fits_file}
 use Rattle.kinds.specs.KindsLaws.{file_some, kind_spelled}
 use Rattle.kinds.specs.declared.Kind.{Kind}

@@ -7,10 +7,10 @@ use Rattle.std.proofs.Math.Decide.{dec_le, dec_lt, ℕ_discrete}
 use borrow.Author.Tests.{ltb-true, ltb-false, eqb-true, eqb-false, le-leb, leb-true, leb-false}
 use Rattle.std.proofs.Math.Dec.{leb}
 use Rattle.octets.specs.Octets.{Bytes, little, spelled, number_at, same_bytes, over}
-use Rattle.octets.specs.OctetsLaws.{little_spelled, spelled_little, length_spelled, same_true, same_refl}
-use Rattle.octets.specs.PartLaws.{number_short}
-use Rattle.octets.specs.Lists.{bytes_take}
-use Rattle.octets.specs.Choice.{either_way, both}
+use Rattle.octets.proofs.OctetsLaws.{little_spelled, spelled_little, length_spelled, same_true, same_refl}
+use Rattle.octets.proofs.PartLaws.{number_short}
+use Rattle.octets.proofs.Lists.{bytes_take}
+use Rattle.octets.proofs.Choice.{either_way, both}
 use Rattle.refusals.specs.Refusals.{no_answer, module_refused}
 use Rattle.pieces.specs.Pieces.{count_of}
 use Rattle.wire.specs.Frame.{Frame, wire_of}

@@ -2,7 +2,7 @@
 use Rattle.std.specs.Prelude.{ℕ, ◌+◌, ◌%◌, ◌^◌, ◌≤◌, ◌<◌, Bool, List, [], ◌≡◌, refl, eqb, length}
 use Rattle.std.proofs.Math.Bool.{true, false}
 use Rattle.std.proofs.Common.{sym, ap, ◌∙◌, arith, le-ltb}
-use Rattle.octets.specs.Choice.{either_way, cond_yes, cond_no}
+use Rattle.octets.proofs.Choice.{either_way, cond_yes, cond_no}
 use Rattle.commands.specs.Commands.{start_answer}
 use Rattle.reader.specs.Reader.{fresh, payload_in}
 use Rattle.reader.specs.Reader as reader

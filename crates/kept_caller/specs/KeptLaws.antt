@@ -1,7 +1,7 @@
 -- The laws of callers as bytes.
 use Rattle.std.specs.Prelude.{ℕ, ◌≤◌, List, [], ◌≡◌, length}
 use Rattle.std.proofs.Common.{sym, ap, ◌∙◌, le-ltb}
-use Rattle.octets.specs.Choice.{cond_no}
+use Rattle.octets.proofs.Choice.{cond_no}
 use Rattle.host.specs.Step.{Left, left}
 use Rattle.host.specs.declared.session.Stepped.{Stepped}
 use Rattle.posts.specs.Caller.{CallerLeft, caller_left, caller_of}

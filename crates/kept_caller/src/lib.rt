@@ -1,4 +1,6 @@
 // A host on a line for callers that keep it as bytes: a reader, what is counted, and a session side by side (record.rt), fed bytes.
+#![tactic(auto)]
+
 mod calls;
 mod kept;
 mod record;

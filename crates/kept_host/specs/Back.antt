@@ -2,9 +2,9 @@
 use Rattle.std.specs.Prelude.{ℕ, ◌+◌, ◌*◌, ◌%◌, ◌^◌, ◌≤◌, ◌<◌, true, ◌&&◌, List, ◌≡◌, length}
 use Rattle.std.proofs.Math.Path.{refl, ap, ap₂}
 use Rattle.std.proofs.Common.{◌∙◌, arith}
-use Rattle.octets.specs.Choice.{cond_yes}
+use Rattle.octets.proofs.Choice.{cond_yes}
 use Rattle.octets.specs.Octets.{spelled, number_at, over}
-use Rattle.octets.specs.OctetsLaws.{little_spelled}
+use Rattle.octets.proofs.OctetsLaws.{little_spelled}
 use Rattle.kinds.specs.Kinds.{kind_of, number_of}
 use Rattle.kinds.specs.KindsLaws.{kind_of_number, kind_spelled}
 use Rattle.kinds.specs.declared.Kind.{Kind}

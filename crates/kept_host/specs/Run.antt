@@ -3,7 +3,7 @@ use Rattle.std.specs.Prelude.{ℕ, ◌-◌, ◌^◌, ◌≤◌, ◌<◌, true, �
 use mathlib.Core.List.{List, [], ◌∷◌}
 use Rattle.std.proofs.Math.Path.{refl, sym, ap, ap₂}
 use Rattle.std.proofs.Common.{◌∙◌, arith, eqb-true, le-ltb}
-use Rattle.octets.specs.Choice.{either_way, cond_yes, cond_no}
+use Rattle.octets.proofs.Choice.{either_way, cond_yes, cond_no}
 use Rattle.kinds.specs.Kinds.{kind_of}
 use Rattle.kinds.specs.declared.Kind.{Kind}
 use Rattle.kinds.specs.declared.Known.{Known}

@@ -1,4 +1,6 @@
 // A host's session for callers that keep it as bytes: words of four bytes each (record.rt), read and written again at each call.
+#![tactic(auto)]
+
 mod answers;
 mod calls;
 mod fields;

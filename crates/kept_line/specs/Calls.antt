@@ -4,8 +4,8 @@ use mathlib.Core.List.{List, [], ◌∷◌, ◌++◌, append-nil, Memᴰ}
 use Rattle.std.proofs.Math.Path.{refl, ap}
 use Rattle.std.proofs.Common.{sym, ◌∙◌, arith, ltb-false}
 use Rattle.octets.specs.Octets.{Bytes, part_of}
-use Rattle.octets.specs.PartLaws.{part_laid}
-use Rattle.octets.specs.Choice.{either_way}
+use Rattle.octets.proofs.PartLaws.{part_laid}
+use Rattle.octets.proofs.Choice.{either_way}
 use Rattle.kinds.specs.Kinds.{number_of}
 use Rattle.kinds.specs.declared.Kind.{Kind}
 use Rattle.wire.specs.Frame.{Frame}

@@ -4,7 +4,7 @@ use Rattle.std.proofs.Math.Bool.{true, false}
 use mathlib.Core.List.{List, [], Memᴰ}
 use Rattle.std.proofs.Common.{arith, eqb-true}
 use Rattle.octets.specs.Octets.{Bytes}
-use Rattle.octets.specs.Choice.{either_way}
+use Rattle.octets.proofs.Choice.{either_way}
 use Rattle.wire.specs.Frame.{Frame, frame}
 use Rattle.commands.specs.Commands.{start_answer}
 use Rattle.reader.specs.Reader.{payload_in, frames_in}

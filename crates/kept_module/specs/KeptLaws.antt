@@ -3,7 +3,7 @@ use Rattle.std.specs.Prelude.{ℕ, ◌+◌, ◌/◌, ◌≤◌, ◌<◌, Bool, t
 use Rattle.std.proofs.lemmas.Bool.{false≢true}
 use Rattle.std.proofs.Common.{ap, ◌∙◌, arith, eqb-true}
 use Rattle.octets.specs.Octets.{number_at}
-use Rattle.octets.specs.Choice.{both, one_holds}
+use Rattle.octets.proofs.Choice.{both, one_holds}
 use Rattle.kinds.specs.Kinds.{kind_of, number_of}
 use Rattle.kinds.specs.KindsLaws.{kind_of_number, kind_spelled, fits_flash_law}
 use Rattle.kinds.specs.declared.Kind.{Kind}

@@ -1,7 +1,7 @@
 -- Runs over kept bytes are the session's own.
 use Rattle.std.specs.Prelude.{ℕ, ◌-◌, ◌≤◌, ◌<◌, true, List, [], ◌∷◌, map, ◌≡◌, refl, leb, length}
 use Rattle.std.proofs.Common.{sym, ap, ◌∙◌, le-ltb}
-use Rattle.octets.specs.Choice.{either_way}
+use Rattle.octets.proofs.Choice.{either_way}
 use Rattle.flat.specs.Words.{recorded}
 use Rattle.flat.specs.Calls.{calls_by, bytes_by}
 use Rattle.module_model.specs.Phases.{longest_idle, openable}

@@ -1,4 +1,6 @@
 // The module's session for callers that keep it as bytes: a record of words of four bytes (record.rt) at the front of a buffer.
+#![tactic(auto)]
+
 mod calls;
 mod reading;
 mod record;

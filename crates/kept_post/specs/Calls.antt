@@ -3,7 +3,7 @@ use Rattle.std.specs.Prelude.{ℕ, ◌+◌, ◌%◌, ◌^◌, ◌≤◌, ◌<◌
 use mathlib.Core.List.{List, [], Memᴰ}
 use Rattle.std.proofs.Common.{sym, ap, ◌∙◌, arith, le-ltb}
 use Rattle.octets.specs.Octets.{Bytes}
-use Rattle.octets.specs.Choice.{either_way, cond_no}
+use Rattle.octets.proofs.Choice.{either_way, cond_no}
 use Rattle.wire.specs.Frame.{Frame, frame}
 use Rattle.commands.specs.Commands.{start_text, start_answer}
 use Rattle.reader.specs.Reader.{fresh, payload_in, frames_in}

@@ -7,7 +7,7 @@ use Rattle.std.proofs.Common.{◌∙◌, arith, length-drop, drop-drop}
 use Rattle.std.proofs.Math.ListN.{length, drop, length-append}
 use Rattle.std.proofs.Math.Seq.{drop_at}
 use Rattle.octets.specs.Octets.{laid, over}
-use Rattle.octets.specs.OctetsLaws.{length_over, over_laid}
+use Rattle.octets.proofs.OctetsLaws.{length_over, over_laid}
 use Rattle.flat.specs.Words.{spelled_all, recorded}
 use Rattle.flat.specs.WordsLaws.{length_spelled_all}
 use Rattle.flat.specs.Found.{Words, ReadAt, read_all, recorded_over}

@@ -3,8 +3,8 @@ use Rattle.std.specs.Prelude.{ℕ, ◌+◌, ◌-◌, ◌/◌, ◌≤◌, true, L
 use Rattle.std.proofs.Common.{append-nil, ap, ◌∙◌, arith, le-ltb, leb-true, length-drop, drop_of_length-le}
 use Rattle.std.proofs.lemmas.List.{length-replicate}
 use Rattle.octets.specs.Octets.{part_of, laid, over}
-use Rattle.octets.specs.OctetsLaws.{over_laid}
-use Rattle.octets.specs.Choice.{cond_no, both}
+use Rattle.octets.proofs.OctetsLaws.{over_laid}
+use Rattle.octets.proofs.Choice.{cond_no, both}
 use Rattle.flat.specs.Words.{spelled_all, recorded}
 use Rattle.flat.specs.WordsLaws.{length_spelled_all}
 use Rattle.wire.specs.Frame.{longest_content}

@@ -9,8 +9,8 @@ use borrow.Author.Tests.{le-leb, le-ltb}
 use Rattle.std.proofs.Math.ListN.{drop}
 use Rattle.std.proofs.Math.Seq.{take_at, take-append-le, drop-append-le}
 use Rattle.octets.specs.Octets.{number_at, part_of, over}
-use Rattle.octets.specs.OctetsLaws.{length_over, over_over}
-use Rattle.octets.specs.Choice.{cond_yes, cond_no}
+use Rattle.octets.proofs.OctetsLaws.{length_over, over_over}
+use Rattle.octets.proofs.Choice.{cond_yes, cond_no}
 use Rattle.wire.specs.Frame.{longest_content}
 use Rattle.flat.specs.Words.{spelled_all, low_half}
 use Rattle.flat.specs.WordsLaws.{length_spelled_all}

@@ -1,5 +1,7 @@
 // A reader that its caller keeps as bytes. Its record: count, opened and pending, four bytes each, then the store; whatever is added comes
 // last.
+#![tactic(auto)]
+
 ghost use Rattle.std.specs.Prelude.{◌≡◌, ◌≤◌, length};
 ghost use Rattle.octets.specs.Octets.{part_of};
 ghost use Rattle.wire.specs.Frame.{longest_content};

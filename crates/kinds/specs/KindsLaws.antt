@@ -1,7 +1,7 @@
 -- The laws of Kinds.
 use Rattle.std.specs.Prelude.{ℕ, ◌+◌, ◌^◌, ◌≤◌, ◌<◌, true, ◌≡◌, refl, eqb, leb}
 use Rattle.std.proofs.Common.{ap, ◌∙◌, arith, leb-true, le-leb, eqb-true}
-use Rattle.octets.specs.Choice.{both, either_way}
+use Rattle.octets.proofs.Choice.{both, either_way}
 use Rattle.kinds.specs.Kinds.{kind_of, number_of, base_of, fits_file, fits_flash, longest_image}
 use Rattle.kinds.specs.declared.Kind.{Kind}
 use Rattle.kinds.specs.declared.Kind.TheVariants.{Navigation, Upgrade, Parameters}

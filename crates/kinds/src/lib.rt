@@ -1,4 +1,6 @@
 // The three types of image: their numbers, flash addresses, command tokens, and what fits where. No other crate knows them.
+#![tactic(auto)]
+
 ghost use Rattle.std.specs.Prelude.{◌≡◌};
 ghost use Rattle.kinds.specs.Kinds.{kind_of, number_of, base_of, token_of, fits_file, fits_flash};
 

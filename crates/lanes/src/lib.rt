@@ -1,5 +1,7 @@
 // One direction of a simulated line: bytes under way, and the noise that hits, loses and inserts some of them by a seed. At rate 0 the
 // lane is clean, and its contract is an equation; what noise does is any bytes to those who hear it.
+#![tactic(auto)]
+
 ghost use Rattle.std.specs.Prelude.{◌≡◌};
 ghost use Rattle.lanes.specs.Lanes.{way, lane_with, cleared_of, counted_of, lost_of, put_of, passed, Cleanly, clean_of};
 

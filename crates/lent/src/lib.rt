@@ -1,4 +1,6 @@
 // The module's step over a session lent to be changed where it stands.
+#![tactic(auto)]
+
 ghost use Rattle.std.specs.Prelude.{◌≡◌};
 ghost use Rattle.module.specs.Session.{stepped};
 ghost use Rattle.module.specs.Step.{left, step_of};

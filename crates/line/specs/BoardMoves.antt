@@ -4,7 +4,7 @@ use mathlib.Core.List.Memᴰ
 use mathlib.Core.List.{List, ◌++◌, Memᴰ}
 use Rattle.std.proofs.Common.{⊎_elim, sym, ap, ◌∙◌, zero-mul, arith}
 use Rattle.octets.specs.Octets.{Bytes, number_at, laid}
-use Rattle.octets.specs.Choice.{either_way}
+use Rattle.octets.proofs.Choice.{either_way}
 use Rattle.kinds.specs.Kinds.{kind_of, base_of, longest_image}
 use Rattle.kinds.specs.KindsLaws.{kind_of_number}
 use Rattle.kinds.specs.declared.Kind.{Kind}

@@ -8,8 +8,8 @@ use Rattle.std.proofs.Math.Path.{refl}
 use Rattle.std.proofs.Common.{sym, ap, ◌∙◌}
 use Rattle.std.proofs.Math.Seq.{take-length}
 use Rattle.octets.specs.Octets.{over}
-use Rattle.octets.specs.OctetsLaws.{take_over}
-use Rattle.octets.specs.Choice.{either_way}
+use Rattle.octets.proofs.OctetsLaws.{take_over}
+use Rattle.octets.proofs.Choice.{either_way}
 use Rattle.refusals.specs.Refusals.{no_room, wrong_image_length}
 use Rattle.kinds.specs.Kinds.{number_of, base_of}
 use Rattle.kinds.specs.KindsLaws.{kind_of_number}

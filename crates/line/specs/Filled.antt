@@ -3,8 +3,8 @@ use Rattle.std.specs.Prelude.{ℕ, ◌+◌, ◌-◌, ◌≤◌, ◌<◌, List, �
 use Rattle.std.proofs.Common.{inl, inr, sym, ap, ◌∙◌, arith, get_or-take, get_or-drop, ext_get_or}
 use Rattle.std.proofs.Math.Decide.{dec_le, dec_lt}
 use Rattle.octets.specs.Octets.{part_of, laid}
-use Rattle.octets.specs.OctetsLaws.{laid_length, laid_before, laid_behind}
-use Rattle.octets.specs.PartLaws.{part_laid, part_most}
+use Rattle.octets.proofs.OctetsLaws.{laid_length, laid_before, laid_behind}
+use Rattle.octets.proofs.PartLaws.{part_laid, part_most}
 
 -- The first m bytes of an image stand in a flash from a base on.
 abbrev pub Filled : List ℕ → ℕ → ℕ → List ℕ → Type 0

@@ -4,7 +4,7 @@ use Rattle.std.proofs.lemmas.Bool.{false≢true}
 use mathlib.Core.List.{List, [], ◌∷◌, append-nil, Memᴰ}
 use Rattle.std.proofs.Common.{⊎_elim, sym, ap, ◌∙◌, arith}
 use Rattle.octets.specs.Octets.{Bytes, over}
-use Rattle.octets.specs.OctetsLaws.{take_over}
+use Rattle.octets.proofs.OctetsLaws.{take_over}
 use Rattle.kinds.specs.Kinds.{fits_file}
 use Rattle.kinds.specs.KindsLaws.{image_short, file_some}
 use Rattle.kinds.specs.declared.Kind.{Kind}

@@ -6,7 +6,7 @@ use Rattle.std.proofs.Common.{ap, ◌∙◌, arith, length-append}
 use Rattle.std.proofs.Math.Decide.{dec_le}
 use Rattle.std.proofs.Math.Seq.{take-length}
 use Rattle.octets.specs.Octets.{laid}
-use Rattle.octets.specs.OctetsLaws.{laid_length, take_over}
+use Rattle.octets.proofs.OctetsLaws.{laid_length, take_over}
 use Rattle.kinds.specs.Kinds.{base_of, number_of, longest_image, fits_file}
 use Rattle.kinds.specs.KindsLaws.{FitsFlash, image_short, file_some}
 use Rattle.kinds.specs.declared.Kind.{Kind}

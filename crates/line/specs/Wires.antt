@@ -5,8 +5,8 @@ use mathlib.Core.List.Memᴰ
 use Rattle.std.proofs.Common.{append-nil, sym, ap, ◌∙◌, arith, take_all}
 use Rattle.std.proofs.Math.Seq.{take-length}
 use Rattle.octets.specs.Octets.{Bytes}
-use Rattle.octets.specs.Choice.{either_way}
-use Rattle.octets.specs.PartLaws.{part_most}
+use Rattle.octets.proofs.Choice.{either_way}
+use Rattle.octets.proofs.PartLaws.{part_most}
 use Rattle.kinds.specs.Kinds.{number_of}
 use Rattle.kinds.specs.declared.Kind.{Kind}
 use Rattle.wire.specs.Frame.{Frame, frame}

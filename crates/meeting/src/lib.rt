@@ -1,5 +1,7 @@
 // A load over a simulated line: the two ends, the two lanes, and their turns. As in `console`, these calls are proved to be safe and to end, and
 // what they do is tested.
+#![tactic(auto)]
+
 use host::{Answer, Session};
 use kinds::Kind;
 use lanes::{Lane, empty, lay};

@@ -5,9 +5,9 @@ use Rattle.std.proofs.Common.{sym, ◌∙◌, arith, length-append, length-drop,
 use Rattle.std.proofs.Math.Path.{ap}
 use borrow.Author.Tests.{lt-ltb, le-ltb, eq-eqb, ne_eqb}
 use Rattle.std.proofs.Math.ListN.{length}
-use Rattle.octets.specs.Lists.{rest_part}
+use Rattle.octets.proofs.Lists.{rest_part}
 use Rattle.octets.specs.Octets.{part_of, over}
-use Rattle.octets.specs.OctetsLaws.{over_nil, take_over}
+use Rattle.octets.proofs.OctetsLaws.{over_nil, take_over}
 use Rattle.refusals.specs.Refusals.{no_room, wrong_length}
 use Rattle.refusals.specs.Written.{Out}
 use Rattle.refusals.specs.Written as written

@@ -1,4 +1,6 @@
 // Plays document 01's story of the module's session, and prints each event, the reply as it goes on the wire, and the flash.
+#![tactic(auto)]
+
 mod flash;
 mod play;
 

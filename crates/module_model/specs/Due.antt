@@ -2,7 +2,7 @@
 use Rattle.std.specs.Prelude.{ℕ, zero, suc, ◌+◌, ◌*◌, ◌-◌, ◌^◌, ◌≤◌, ◌<◌, true, false, cond, List, ◌≡◌, refl, eqb, length}
 use Rattle.std.proofs.Common.{sym, ap, ◌∙◌, zero-mul, arith, eq-eqb, ne_eqb}
 use Rattle.octets.specs.Octets.{number_at, spelled, part_of}
-use Rattle.octets.specs.OctetsLaws.{little_spelled}
+use Rattle.octets.proofs.OctetsLaws.{little_spelled}
 use Rattle.kinds.specs.Kinds.{number_of, token_of, longest_image}
 use Rattle.kinds.specs.KindsLaws.{FitsFlash, flash_fits, kind_of_number, kind_spelled}
 use Rattle.kinds.specs.declared.Kind.{Kind}

@@ -2,7 +2,7 @@
 use Rattle.std.specs.Prelude.{ℕ, ◌+◌, ◌*◌, ◌-◌, ◌≤◌, ◌<◌, List, [], ◌∷◌, ◌++◌, ◌≡◌, refl, length, take}
 use Rattle.std.proofs.Common.{ap, ◌∙◌, zero-mul, arith, eq-eqb, length-take-le}
 use Rattle.octets.specs.Octets.{laid}
-use Rattle.octets.specs.OctetsLaws.{laid_nothing, laid_length, laid_next}
+use Rattle.octets.proofs.OctetsLaws.{laid_nothing, laid_length, laid_next}
 use Rattle.kinds.specs.Kinds.{base_of}
 use Rattle.pieces.specs.Pieces.{size_at, piece_of}
 use Rattle.pieces.specs.PiecesLaws.{within, take_more, take_whole}

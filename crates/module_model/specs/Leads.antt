@@ -4,7 +4,7 @@ use Rattle.std.proofs.lemmas.Bool.{false≢true, eqb-false}
 use mathlib.Core.List.{List, Memᴰ}
 use Rattle.std.proofs.Common.{ap, ◌∙◌, sym, arith, eqb-true}
 use Rattle.std.proofs.Math.Decide.{ℕ_discrete}
-use Rattle.octets.specs.Choice.{either_way}
+use Rattle.octets.proofs.Choice.{either_way}
 use Rattle.pieces.specs.Pieces.{offset_of, size_at}
 use Rattle.pieces.specs.PiecesLaws.{ends_with, size_before, product_step}
 use Rattle.commands.specs.Commands.{accepted, restart_command, restart_reply}

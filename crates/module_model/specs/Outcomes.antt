@@ -6,8 +6,8 @@ use native.Mathlib.Omega.{arith}
 use borrow.Author.Tests.{eqb-true}
 use Rattle.std.proofs.Math.ListN.{length}
 use Rattle.octets.specs.Octets.{Bytes, number_at, part_of}
-use Rattle.octets.specs.Choice.{both, either_way}
-use Rattle.octets.specs.PartLaws.{number_short}
+use Rattle.octets.proofs.Choice.{both, either_way}
+use Rattle.octets.proofs.PartLaws.{number_short}
 use Rattle.kinds.specs.Kinds.{kind_of, token_of, fits_flash}
 use Rattle.kinds.specs.KindsLaws.{FitsFlash, fits_flash_law}
 use Rattle.kinds.specs.declared.Kind.{Kind}

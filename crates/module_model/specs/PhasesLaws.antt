@@ -1,7 +1,7 @@
 -- The laws of Phases: each test and the facts that it stands for.
 use Rattle.std.specs.Prelude.{ℕ, ◌*◌, ◌-◌, ◌≤◌, ◌<◌, true, false, ◌≡◌, refl, ltb, leb}
 use Rattle.std.proofs.Common.{mul-le-mul_right, arith, leb-true, le-leb, ltb-true, lt-ltb, eqb-true, eq-eqb}
-use Rattle.octets.specs.Choice.{both}
+use Rattle.octets.proofs.Choice.{both}
 use Rattle.kinds.specs.Kinds.{longest_image}
 use Rattle.kinds.specs.KindsLaws.{FitsFlash, fits_flash_law, flash_fits}
 use Rattle.pieces.specs.PiecesLaws.{counted, count_some}

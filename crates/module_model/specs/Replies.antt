@@ -4,7 +4,7 @@ use mathlib.Core.List.{List, [], ◌∷◌, ◌++◌, Memᴰ}
 use Rattle.std.proofs.Common.{⊎_elim, sym, ap, ◌∙◌, arith, take_at}
 use Rattle.std.proofs.lemmas.List.{get_or_at}
 use Rattle.octets.specs.Octets.{little, spelled}
-use Rattle.octets.specs.OctetsLaws.{length_spelled, little_spelled}
+use Rattle.octets.proofs.OctetsLaws.{length_spelled, little_spelled}
 use Rattle.wire.specs.Frame as wire
 use Rattle.commands.specs.Commands.{largest_packet, largest_total, parameters_command, packet_command, notice_command, accepted}
 use Rattle.commands.specs.Commands.{parameters_reply, packet_reply, restart_reply, notice}

@@ -3,9 +3,9 @@ use Rattle.std.specs.Prelude.{ℕ, ◌+◌, ◌*◌, ◌-◌, ◌≤◌, true, f
 use Rattle.std.proofs.Math.Bool.{not-eq-not}
 use Rattle.std.proofs.Common.{sym, ap, ◌∙◌, mul-le-mul, arith, le-leb, leb-true, eq-eqb, ne_eqb, eqb-true}
 use Rattle.std.proofs.Math.Decide.{ℕ_discrete}
-use Rattle.octets.specs.Choice.{cond_yes, cond_no, both}
+use Rattle.octets.proofs.Choice.{cond_yes, cond_no, both}
 use Rattle.octets.specs.Octets.{part_of, same_bytes}
-use Rattle.octets.specs.OctetsLaws.{same_refl, same_true}
+use Rattle.octets.proofs.OctetsLaws.{same_refl, same_true}
 use Rattle.kinds.specs.Kinds.{kind_of, token_of, fits_flash}
 use Rattle.kinds.specs.KindsLaws.{base_short}
 use Rattle.kinds.specs.declared.Kind.{Kind}

@@ -1,5 +1,7 @@
 // The rules of the module's session as definitions and laws (specs/), over the types below. It has no function: the crate module
 // computes what stands here.
+#![tactic(auto)]
+
 mod events;
 mod phases;
 mod rules;

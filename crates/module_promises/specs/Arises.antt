@@ -3,7 +3,7 @@ use Rattle.std.specs.Prelude.{ℕ, ◌-◌, true, List, [], ◌∷◌, ◌≡◌
 use Rattle.std.proofs.Math.Bool.{or-true}
 use Rattle.std.proofs.Common.{arith, leb-true}
 use Rattle.octets.specs.Octets.{Bytes}
-use Rattle.octets.specs.Choice.{either_way}
+use Rattle.octets.proofs.Choice.{either_way}
 use Rattle.kinds.specs.KindsLaws.{flash_fits}
 use Rattle.module_model.specs.Phases.{longest_idle, closing_idle, openable, held, closed_arises}
 use Rattle.module_model.specs.PhasesLaws.{sizes_openable, openable_sizes, closed_at_0, closed_at_limit}

@@ -2,9 +2,9 @@
 use Rattle.std.specs.Prelude.{ℕ, ◌+◌, ◌≤◌, ◌<◌, false, List, [], ◌∷◌, ◌++◌, ◌≡◌, refl, length, get_or}
 use Rattle.std.proofs.Common.{sym, ap, ◌∙◌, arith}
 use Rattle.std.proofs.Math.Decide.{dec_le, dec_lt}
-use Rattle.octets.specs.Choice.{cond_no}
+use Rattle.octets.proofs.Choice.{cond_no}
 use Rattle.octets.specs.Octets.{Bytes, number_at, laid}
-use Rattle.octets.specs.OctetsLaws.{laid_length, laid_before, laid_behind}
+use Rattle.octets.proofs.OctetsLaws.{laid_length, laid_before, laid_behind}
 use Rattle.kinds.specs.Kinds.{base_of}
 use Rattle.pieces.specs.PiecesLaws.{ends_with}
 use Rattle.commands.specs.Commands.{largest_total}

@@ -2,7 +2,7 @@
 use Rattle.std.specs.Prelude.{ℕ, ◌+◌, ◌-◌, ◌≤◌, ◌<◌, true, false, List, ◌≡◌, length}
 use Rattle.std.proofs.Common.{ap, ◌∙◌, arith, le-leb}
 use Rattle.std.proofs.lemmas.Bool.{lt-leb}
-use Rattle.octets.specs.Choice.{cond_yes, cond_no}
+use Rattle.octets.proofs.Choice.{cond_yes, cond_no}
 use Rattle.module_model.specs.Phases.{closing_idle, largest_flash, longest_idle, openable, total_of}
 use Rattle.module_model.specs.Rules.{decide_of}
 use Rattle.module_model.specs.Due.{Carries, waiting, waiting_held}

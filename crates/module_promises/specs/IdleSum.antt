@@ -2,7 +2,7 @@
 use Rattle.std.specs.Prelude.{ℕ, ◌-◌, true, cond, List, [], ◌∷◌, ◌≡◌, refl, leb, length}
 use Rattle.std.proofs.lemmas.Bool.{false≢true}
 use Rattle.std.proofs.Common.{sym, ◌∙◌}
-use Rattle.octets.specs.Choice.{either_way}
+use Rattle.octets.proofs.Choice.{either_way}
 use Rattle.module_model.specs.Phases.{longest_idle, openable}
 use Rattle.module_model.specs.Rules.{frames_of, decide_of}
 use Rattle.module_model.specs.Leads.{held_open}

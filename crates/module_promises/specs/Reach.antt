@@ -4,10 +4,10 @@ use Rattle.std.proofs.lemmas.Bool.{false≢true}
 use Rattle.std.proofs.Common.{sym, ap, ◌∙◌, zero-add, add-one, arith, eqb-true}
 use Rattle.std.proofs.lemmas.List.{length-replicate}
 use Rattle.std.proofs.Math.Seq.{take-length}
-use Rattle.octets.specs.Choice.{both, one_holds}
+use Rattle.octets.proofs.Choice.{both, one_holds}
 use Rattle.octets.specs.Octets.{Bytes, spelled}
-use Rattle.octets.specs.Lists.{bytes_append, bytes_replicate, bytes_spelled}
-use Rattle.octets.specs.PartLaws.{bytes_part}
+use Rattle.octets.proofs.Lists.{bytes_append, bytes_replicate, bytes_spelled}
+use Rattle.octets.proofs.PartLaws.{bytes_part}
 use Rattle.kinds.specs.Kinds.{number_of, token_of}
 use Rattle.kinds.specs.KindsLaws.{FitsFlash, fits_flash_law}
 use Rattle.pieces.specs.Pieces.{count_of, offset_of, piece_of}

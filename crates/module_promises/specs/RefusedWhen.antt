@@ -2,7 +2,7 @@
 use Rattle.std.specs.Prelude.{ℕ, ◌≤◌, ◌<◌, false, List, ◌≡◌, refl, eqb, ltb, length}
 use Rattle.std.proofs.lemmas.Bool.{false≢true, eqb-false}
 use Rattle.std.proofs.Common.{inl, inr, sym, ap, ◌∙◌, arith, ltb-true, ltb-false, eqb-true}
-use Rattle.octets.specs.Choice.{either_way}
+use Rattle.octets.proofs.Choice.{either_way}
 use Rattle.refusals.specs.Refusals.{no_room, wrong_length}
 use Rattle.module_model.specs.Rules.{frames_of, decide_of}
 use Rattle.module_model.specs.Answers.{number_in, is_refused}

@@ -2,7 +2,7 @@
 use Rattle.std.specs.Prelude.{ℕ, ◌+◌, ◌≤◌, List, [], ◌∷◌, ◌++◌, map, ◌≡◌, refl, length, take}
 use Rattle.std.proofs.Common.{ap, ◌∙◌, arith}
 use Rattle.octets.specs.Octets.{spelled, over}
-use Rattle.octets.specs.OctetsLaws.{take_over}
+use Rattle.octets.proofs.OctetsLaws.{take_over}
 use Rattle.wire.specs.Frame.{Frame, longest_payload, wire_of}
 use Rattle.reader_promises.specs.Runs.{Placed}
 use Rattle.reader_promises.specs.Seen.{Seen, outside, seen_after, seen_handed}

@@ -2,8 +2,8 @@
 use Rattle.std.specs.Prelude.{ℕ, true, false, List, ◌≡◌, refl, eqb, ltb, length}
 use Rattle.std.proofs.Common.{sym, eqb-true}
 use Rattle.octets.specs.Octets.{Bytes}
-use Rattle.octets.specs.Choice.{either_way}
-use Rattle.octets.specs.Lists.{bytes_take}
+use Rattle.octets.proofs.Choice.{either_way}
+use Rattle.octets.proofs.Lists.{bytes_take}
 use Rattle.refusals.specs.Refusals.{no_room, wrong_length}
 use Rattle.module_model.specs.Rules.{decide_of}
 use Rattle.module_model.specs.Outcomes.{Outcome, outcome}

@@ -7,7 +7,7 @@ use Rattle.std.proofs.lemmas.Bool.{eqb-false}
 use Rattle.wire.specs.Frame as wire
 use Rattle.commands.specs.Commands.{parameters_command, largest_packet, accepted, parameters_reply}
 use Rattle.octets.specs.Octets.{Bytes, little, spelled, part_of}
-use Rattle.octets.specs.Lists.{bytes_spelled}
+use Rattle.octets.proofs.Lists.{bytes_spelled}
 use Rattle.kinds.specs.declared.Kind.TheVariants.{Upgrade}
 use Rattle.pieces.specs.Pieces.{count_of}
 use Rattle.module_model.specs.Phases.{alive, openable}

@@ -8,10 +8,10 @@ use Rattle.std.proofs.Math.Decide.{dec_le}
 use Rattle.std.proofs.Math.ListN.{length, length-append, get_or-append}
 use Rattle.std.proofs.lemmas.List.{get_or_at}
 use Rattle.octets.specs.Octets.{Bytes, part_of, laid}
-use Rattle.octets.specs.OctetsLaws.{laid_next, laid_nothing}
-use Rattle.octets.specs.PartLaws.{part_behind}
-use Rattle.octets.specs.Choice.{cond_no, either_way}
-use Rattle.octets.specs.Lists.{each_more}
+use Rattle.octets.proofs.OctetsLaws.{laid_next, laid_nothing}
+use Rattle.octets.proofs.PartLaws.{part_behind}
+use Rattle.octets.proofs.Choice.{cond_no, either_way}
+use Rattle.octets.proofs.Lists.{each_more}
 use Rattle.kinds.specs.Kinds.{base_of}
 use Rattle.pieces.specs.Pieces.{offset_of, size_at}
 use Rattle.pieces.specs.PiecesLaws.{Within, within, next_offset}

@@ -6,8 +6,8 @@ use mathlib.Core.List.{List, [], ◌∷◌, ◌++◌, Memᴰ}
 use Rattle.std.proofs.Common.{sym, ap, ◌∙◌, arith, length-drop}
 use Rattle.std.proofs.Math.Decide.{dec_le, dec_lt}
 use Rattle.octets.specs.Octets.{Bytes, number_at, part_of}
-use Rattle.octets.specs.Lists.{bytes_take}
-use Rattle.octets.specs.PartLaws.{number_short}
+use Rattle.octets.proofs.Lists.{bytes_take}
+use Rattle.octets.proofs.PartLaws.{number_short}
 use Rattle.kinds.specs.Kinds.{base_of}
 use Rattle.kinds.specs.KindsLaws.{FitsFlash, fits_flash_law}
 use Rattle.pieces.specs.Pieces.{count_of, size_at}

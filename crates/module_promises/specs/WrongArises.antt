@@ -2,7 +2,7 @@
 use Rattle.std.specs.Prelude.{◌+◌, Bool, true, false, cond, List, [], ◌∷◌, ◌≡◌, refl, ltb, length}
 use Rattle.std.proofs.lemmas.Bool.{false≢true}
 use Rattle.std.proofs.Common.{sym, ap, ◌∙◌}
-use Rattle.octets.specs.Choice.{either_way}
+use Rattle.octets.proofs.Choice.{either_way}
 use Rattle.kinds.specs.Kinds.{fits_flash}
 use Rattle.module_model.specs.Phases.{longest_idle, openable, alive, closed_arises}
 use Rattle.module.specs.Session.{session, opening_of, takes, arises}

@@ -4,7 +4,7 @@ use Rattle.std.specs.Prelude.{ℕ, ◌+◌, ◌≤◌, ◌<◌, List, [], ◌∷
 use mathlib.Core.List.Memᴰ
 use Rattle.std.proofs.Common.{sym, ap, ◌∙◌, arith}
 use Rattle.octets.specs.Octets.{Bytes, number_at, little, spelled, part_of, same_bytes, laid}
-use Rattle.octets.specs.Lists.{bytes_spelled}
+use Rattle.octets.proofs.Lists.{bytes_spelled}
 use Rattle.kinds.specs.Kinds.{kind_of, fits_flash}
 use Rattle.pieces.specs.Pieces.{count_of, size_at}
 use Rattle.wire.specs.Frame as wire

@@ -5,7 +5,7 @@ use mathlib.Core.List.Memᴰ
 use mathlib.Core.List.{List, [], ◌∷◌, Memᴰ}
 use Rattle.std.proofs.Common.{ap, arith}
 use Rattle.octets.specs.Octets.{Bytes, number_at, little, spelled, part_of, same_bytes, laid}
-use Rattle.octets.specs.Lists.{bytes_spelled}
+use Rattle.octets.proofs.Lists.{bytes_spelled}
 use Rattle.kinds.specs.Kinds.{kind_of, fits_flash}
 use Rattle.kinds.specs.declared.Kind.TheVariants.{Upgrade}
 use Rattle.pieces.specs.Pieces.{count_of, size_at}

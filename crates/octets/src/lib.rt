@@ -1,6 +1,8 @@
 // Bytes in slices, for every layer above: numbers with the low byte first, xor, zero runs, equal
 // runs, copies. Each call takes any slice and any place; a place past the end reads as zero and
 // takes no byte.
+#![tactic(auto)]
+
 mod numbers;
 mod parts;
 mod runs;

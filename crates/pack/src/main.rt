@@ -1,4 +1,6 @@
 // Makes a UBF file of one block from a raw image file and the block's fields.
+#![tactic(auto)]
+
 use console::Got;
 use kinds::Known;
 use refusals::Written;

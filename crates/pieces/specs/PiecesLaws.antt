@@ -5,7 +5,7 @@ use Rattle.std.proofs.Math.Nat.{add-div_right, div-eq_of_lt, div-eq_of_lt-le, lt
 use Rattle.std.proofs.Math.Decide.{dec_lt, ℕ_discrete}
 use Rattle.std.proofs.Math.Seq.{take-length, take-nil}
 use Rattle.octets.specs.Octets.{part_of}
-use Rattle.octets.specs.PartLaws.{length_part}
+use Rattle.octets.proofs.PartLaws.{length_part}
 use Rattle.pieces.specs.Pieces.{count_of, offset_of, size_at, piece_of}
 
 -- ---- how many pieces there are

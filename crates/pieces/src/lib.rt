@@ -1,4 +1,6 @@
 // An image cut into pieces of one size: how many there are, and how long each is. Both ends of the line count by this.
+#![tactic(auto)]
+
 ghost use Rattle.std.specs.Prelude.{◌≡◌, ◌-◌};
 ghost use Rattle.pieces.specs.Pieces.{count_of, size_at, piece_of};
 

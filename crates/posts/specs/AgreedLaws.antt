@@ -3,7 +3,7 @@ use Rattle.std.specs.Prelude.{◌≡◌, ℕ, List, length, ◌≢◌, refl}
 use Rattle.std.proofs.Common.{sym, ◌∙◌, arith}
 use Rattle.std.proofs.Math.Path.{ap}
 use Rattle.octets.specs.Octets.{same_bytes, part_of}
-use Rattle.octets.specs.OctetsLaws.{take_over}
+use Rattle.octets.proofs.OctetsLaws.{take_over}
 use Rattle.refusals.specs.Written.{Out, written, count_in}
 use Rattle.refusals.specs.declared.Written.{Written}
 use Rattle.refusals.specs.declared.Written.TheVariants.{Count, Refused}

@@ -1,7 +1,7 @@
 -- The laws of posts and callers: what they count stays a number of eight bytes.
 use Rattle.std.specs.Prelude.{ℕ, ◌+◌, ◌%◌, ◌^◌, ◌<◌, Bool}
 use Rattle.std.proofs.Common.{arith}
-use Rattle.octets.specs.Choice.{either_way}
+use Rattle.octets.proofs.Choice.{either_way}
 use Rattle.posts.specs.Post.{more_of}
 
 pub more_small : (n : ℕ) (happened : Bool) → n < 2 ^ 64 → more_of n happened < 2 ^ 64

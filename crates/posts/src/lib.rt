@@ -1,5 +1,7 @@
 // Both ends of a line as programs keep them: a post that waits for the start text, and a caller that counts what it resends; the rate of
 // a module's line, the piece that fits a rate, and how a load ended.
+#![tactic(auto)]
+
 mod agreed;
 mod caller;
 mod ending;

@@ -1,4 +1,6 @@
 // The five rates by number.
+#![tactic(auto)]
+
 ghost use Rattle.std.specs.Prelude.{◌≡◌};
 ghost use Rattle.host_model.specs.Stages.{number_of_rate, rate_fits};
 

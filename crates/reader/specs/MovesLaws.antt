@@ -1,7 +1,7 @@
 -- A content byte is put only where the store has room for it.
 use Rattle.std.specs.Prelude.{ℕ, ◌<◌, Bool, eqb, ltb}
 use Rattle.std.proofs.Common.{ltb-true}
-use Rattle.octets.specs.Choice.{either_way}
+use Rattle.octets.proofs.Choice.{either_way}
 use Rattle.wire.specs.Escape.{head_mark, escape_mark, tail_mark, may_follow, original_of}
 use Rattle.wire.specs.Frame.{longest_content}
 use Rattle.reader.specs.Moves.{content_move, follow_move, tail_move, inside_move, move_of}

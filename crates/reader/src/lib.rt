@@ -1,4 +1,6 @@
 // The reader of frames: fed byte by byte, it answers nothing, a frame, or dropped.
+#![tactic(auto)]
+
 mod moves;
 mod steps;
 

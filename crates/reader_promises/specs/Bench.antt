@@ -7,7 +7,7 @@ use Rattle.wire.specs.Frame.{unchecked_of, content_of, wire_form, wire_of, verdi
 use Rattle.reader_promises.specs.Runs.{Placed, placed}
 use Rattle.reader_promises.specs.Table.{Row, bench_table, printed_row}
 use Rattle.reader_promises.specs.Promises.{BenchTable, PrintedRow, BenchFrames}
-use Rattle.octets.specs.Lists.{same_each}
+use Rattle.octets.proofs.Lists.{same_each}
 use Rattle.reader_promises.specs.Seen.{outside, seen_handed, sight_of, inside_sight, tail_sight, follow_sight, content_sight}
 use Rattle.reader_promises.specs.SeenLaws.{fresh_handed}
 

@@ -2,7 +2,7 @@
 use Rattle.std.specs.Prelude.{ℕ, Bool, cond, not, List, eqb, ltb}
 use Rattle.std.proofs.Math.Bool.{true, false}
 use Rattle.std.proofs.Math.Path.{refl}
-use Rattle.octets.specs.Choice.{either_way}
+use Rattle.octets.proofs.Choice.{either_way}
 use Rattle.wire.specs.Escape.{head_mark, escape_mark, tail_mark, may_follow, original_of}
 use Rattle.wire.specs.Frame.{longest_content, verdict_of}
 use Rattle.wire.specs.declared.content.Verdict.{Verdict}

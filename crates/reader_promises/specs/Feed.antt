@@ -2,7 +2,7 @@
 use Rattle.std.specs.Prelude.{ℕ, suc, ◌+◌, ◌-◌, ◌≤◌, ◌<◌, Bool, true, false, List, [], ◌∷◌, ◌++◌, map, ◌≡◌, refl, ltb, length}
 use Rattle.std.proofs.Common.{append-nil, ap, ◌∙◌, arith, lt-ltb, length-append}
 use Rattle.std.proofs.Math.Seq.{append_snoc}
-use Rattle.octets.specs.Choice.{cond_yes}
+use Rattle.octets.proofs.Choice.{cond_yes}
 use Rattle.wire.specs.Escape.{escape_mark, tail_mark, is_mark, second_of, may_follow, original_of, escape_of, escaped}
 use Rattle.wire.specs.EscapeLaws.{mark_not_head, mark_not_escape, mark_not_tail, second_follows, original_second, follow_not_mark}
 use Rattle.wire.specs.EscapeLaws.{escape_mark_law, escape_plain}

@@ -21,8 +21,8 @@ use Rattle.reader.specs.Reader.{judged_by, moved_by, known_step, step_of}
 use Rattle.reader.specs.Moves.{content_move, follow_move, tail_move, inside_move, move_of, Does, passes, begins, waits}
 use Rattle.reader_promises.specs.Runs.{later, handed_by, handed_from, handed_of}
 use Rattle.reader_promises.specs.Promises.{Made}
-use Rattle.octets.specs.Choice.{by_test, either_way}
-use Rattle.octets.specs.Lists.{part_take}
+use Rattle.octets.proofs.Choice.{by_test, either_way}
+use Rattle.octets.proofs.Lists.{part_take}
 use Rattle.reader_promises.specs.Seen.{Seen, outside, within, seen_in, seen_of, Sight, quiet, hands}
 use Rattle.reader_promises.specs.Seen.{seen_step, seen_frames, seen_after, seen_handed}
 use Rattle.reader_promises.specs.Seen.{content_sight, follow_sight, tail_sight, inside_sight, past_sight, sight_of}

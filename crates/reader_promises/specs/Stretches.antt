@@ -16,8 +16,8 @@ use Rattle.wire.specs.Frame.{Frame, Acceptable, longest_payload, longest_content
 use Rattle.wire.specs.FrameLaws.{content_of_frame, content_acceptable}
 use Rattle.reader_promises.specs.Runs.{Placed, placed, RisingFrom}
 use Rattle.reader_promises.specs.Promises.{StandsIn, EveryStretch}
-use Rattle.octets.specs.Choice.{either_way}
-use Rattle.octets.specs.Lists.{bytes_snoc}
+use Rattle.octets.proofs.Choice.{either_way}
+use Rattle.octets.proofs.Lists.{bytes_snoc}
 use Rattle.reader_promises.specs.Seen.{Seen, outside, within, Sight, quiet, seen_step, seen_frames, seen_handed}
 use Rattle.reader_promises.specs.Seen.{content_sight, follow_sight, tail_sight, inside_sight, past_sight, sight_of}
 use Rattle.reader_promises.specs.SeenLaws.{handed_append, fresh_handed, each_sight}

@@ -5,7 +5,7 @@ use Rattle.std.proofs.Common.{true≢false, sym, ap, ◌∙◌, arith}
 use mathlib.Core.List.{List, [], ◌∷◌, ◌++◌, map, Memᴰ}
 use Rattle.std.proofs.lemmas.List.{length-replicate}
 use Rattle.octets.specs.Octets.{Bytes, little, spelled, number_at, xor_from, xor_of, part_of, over}
-use Rattle.octets.specs.Lists.{bytes_snoc}
+use Rattle.octets.proofs.Lists.{bytes_snoc}
 use Rattle.wire.specs.Escape.{head_mark, tail_mark, is_mark, second_of, may_follow, escape_of, escaped}
 use Rattle.wire.specs.Frame.{Frame, frame, Acceptable, longest_content, shortest_content}
 use Rattle.wire.specs.Frame.{unchecked_of, content_of, wire_form, wire_of, verdict_of, is_content}

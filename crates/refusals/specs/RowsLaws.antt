@@ -2,7 +2,7 @@
 use Rattle.std.specs.Prelude.{ℕ, suc, ◌+◌, true, not, List, [], ◌∷◌, ◌++◌, ◌≡◌, refl, eqb, length, take, drop, get_or}
 use Rattle.std.proofs.Common.{ap, arith, take_at, eq-eqb, ne_eqb}
 use Rattle.std.proofs.lemmas.Bool.{not_true as not-of}
-use Rattle.octets.specs.Choice.{both}
+use Rattle.octets.proofs.Choice.{both}
 use Rattle.octets.specs.Octets.{text_length}
 use Rattle.refusals.specs.Refusals.{Row, words_in, words_of, table}
 use Rattle.refusals.specs.Rows.{table_bytes, row_of, plain, all_plain}

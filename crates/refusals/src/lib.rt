@@ -1,4 +1,6 @@
 // The refusal numbers of document 01's table by name, and the words that a program prints beside a number.
+#![tactic(auto)]
+
 ghost use Rattle.std.specs.Prelude.{◌≡◌, ◌≤◌};
 ghost use Rattle.octets.specs.Octets.{Front};
 ghost use Rattle.refusals.specs.Refusals.{say_of, words_of};

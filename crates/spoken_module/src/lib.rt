@@ -1,5 +1,7 @@
 // What the module answers and where its session stands, in words. As in `console`, these calls are proved to be safe and to end, and what
 // they print is tested.
+#![tactic(auto)]
+
 use module::{Answer, Phase, Session};
 use spoken_frames::{Side, show_message, words_only};
 

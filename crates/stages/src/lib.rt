@@ -1,4 +1,6 @@
 // The stages of a load: what the host waits for at each, which answers of the module fit, and where each leads.
+#![tactic(auto)]
+
 mod answers;
 mod fits;
 

@@ -1,4 +1,6 @@
 // One block of a UBF file: read, written, and its parts.
+#![tactic(auto)]
+
 mod block;
 mod pack;
 

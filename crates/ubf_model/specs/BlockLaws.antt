@@ -2,7 +2,7 @@
 use Rattle.std.specs.Prelude.{ℕ, ◌+◌, ◌≤◌, Bool, true, false, List, ◌≡◌, refl, eqb, leb, length}
 use Rattle.std.proofs.Common.{arith, eq-eqb, eqb-true, le-leb, leb-true}
 use Rattle.octets.specs.Octets.{same_bytes, xor_words}
-use Rattle.octets.specs.OctetsLaws.{same_refl, same_true}
+use Rattle.octets.proofs.OctetsLaws.{same_refl, same_true}
 use Rattle.kinds.specs.Kinds.{kind_of, base_of, fits_file}
 use Rattle.kinds.specs.declared.Kind.{Kind}
 use Rattle.kinds.specs.declared.Known.{Known}

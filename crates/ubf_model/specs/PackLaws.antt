@@ -3,11 +3,11 @@ use Rattle.std.specs.Prelude.{ℕ, ◌+◌, ◌-◌, ◌≤◌, ◌<◌, Bool, t
 use Rattle.std.proofs.lemmas.Bool.{false≢true}
 use Rattle.std.proofs.Common.{append-nil, sym, ap, ◌∙◌, arith, eq-eqb, eqb-true, le-leb, leb-true, length-append}
 use Rattle.std.proofs.lemmas.List.{length-replicate}
-use Rattle.octets.specs.Choice.{both}
+use Rattle.octets.proofs.Choice.{both}
 use Rattle.octets.specs.Octets.{spelled, part_of, all_zero, zero_filled, xor_words, laid, over, end_to_end, lay_all}
-use Rattle.octets.specs.OctetsLaws.{length_spelled, over_nil}
-use Rattle.octets.specs.PartLaws.{size_of_all, Sized, StandAt, ◌also◌}
-use Rattle.octets.specs.PartLaws.{lay_all_law, stand_of_laid, laid_of_stand, length_laid, filled_behind}
+use Rattle.octets.proofs.OctetsLaws.{length_spelled, over_nil}
+use Rattle.octets.proofs.PartLaws.{size_of_all, Sized, StandAt, ◌also◌}
+use Rattle.octets.proofs.PartLaws.{lay_all_law, stand_of_laid, laid_of_stand, length_laid, filled_behind}
 use Rattle.kinds.specs.Kinds.{longest_image, kind_of, base_of, fits_file}
 use Rattle.kinds.specs.KindsLaws.{image_short}
 use Rattle.kinds.specs.declared.Kind.{Kind}

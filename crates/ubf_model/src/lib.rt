@@ -1,5 +1,7 @@
 // UBF files as rules: what a block is, how one is read and written, and the walk over the blocks of a file (specs/). No function; the
 // calls are those of `ubf`.
+#![tactic(auto)]
+
 mod block;
 mod pack;
 mod walk;

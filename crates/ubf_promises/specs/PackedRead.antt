@@ -2,7 +2,7 @@
 use Rattle.std.specs.Prelude.{◌≡◌, refl, length, drop}
 use Rattle.std.proofs.Common.{drop_at}
 use Rattle.octets.specs.Octets.{over}
-use Rattle.octets.specs.OctetsLaws.{take_over}
+use Rattle.octets.proofs.OctetsLaws.{take_over}
 use Rattle.kinds.specs.KindsLaws.{number_of_kind}
 use Rattle.refusals.specs.Written.{written}
 use Rattle.ubf_model.specs.Pack.{block_bytes, pack_of}

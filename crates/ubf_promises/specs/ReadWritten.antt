@@ -2,7 +2,7 @@
 use Rattle.std.specs.Prelude.{ℕ, ◌+◌, ◌-◌, ◌≤◌, List, ◌++◌, ◌≡◌, length}
 use Rattle.std.proofs.Common.{sym, ap, ◌∙◌, arith, length-append}
 use Rattle.octets.specs.Octets.{xor_words}
-use Rattle.octets.specs.PartLaws.{number_of_part, zeros_zero, xor_words_lt}
+use Rattle.octets.proofs.PartLaws.{number_of_part, zeros_zero, xor_words_lt}
 use Rattle.kinds.specs.Kinds.{number_of, base_of}
 use Rattle.kinds.specs.KindsLaws.{kind_of_number, kind_spelled, image_short}
 use Rattle.kinds.specs.declared.Kind.{Kind}

@@ -1,7 +1,7 @@
 -- What is refused, with which number, and what a refusal leaves.
 use Rattle.std.specs.Prelude.{ℕ, Bool, List, [], ◌∷◌, ◌≡◌, refl, leb, length}
 use Rattle.std.proofs.Common.{ap, ◌∙◌}
-use Rattle.octets.specs.Choice.{by_test, either_way}
+use Rattle.octets.proofs.Choice.{by_test, either_way}
 use Rattle.octets.specs.Octets.{same_bytes}
 use Rattle.kinds.specs.Kinds.{kind_of}
 use Rattle.kinds.specs.declared.Known.{Known}

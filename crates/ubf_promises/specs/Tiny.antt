@@ -1,7 +1,7 @@
 -- The smallest block, of an image of four bytes: what wrong writers, readers and walks are tried on.
 use Rattle.std.specs.Prelude.{ℕ, Bool, true, ◌&&◌, List, [], ◌∷◌, ◌≡◌, refl, ltb, replicate}
 use Rattle.std.proofs.Common.{arith, ltb-true}
-use Rattle.octets.specs.Choice.{both}
+use Rattle.octets.proofs.Choice.{both}
 use Rattle.octets.specs.Octets.{Bytes, text_length, zero_filled, all_zero}
 use Rattle.kinds.specs.Kinds.{fits_file}
 use Rattle.kinds.specs.declared.Kind.TheVariants.{Upgrade}

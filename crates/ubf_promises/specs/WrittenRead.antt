@@ -2,7 +2,7 @@
 use Rattle.std.specs.Prelude.{ℕ, ◌+◌, ◌-◌, ◌≤◌, true, List, ◌≡◌, length, take, replicate}
 use Rattle.std.proofs.Common.{ap, ◌∙◌, arith}
 use Rattle.octets.specs.Octets.{Bytes, part_of}
-use Rattle.octets.specs.PartLaws.{length_part, part_of_number, zeros_of_zero}
+use Rattle.octets.proofs.PartLaws.{length_part, part_of_number, zeros_of_zero}
 use Rattle.kinds.specs.KindsLaws.{number_of_kind}
 use Rattle.kinds.specs.declared.Kind.{Kind}
 use Rattle.refusals.specs.Written.{written}

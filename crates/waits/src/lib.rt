@@ -1,4 +1,6 @@
 // What a host's session waits for, what follows an event, and what a caller reads from it. All of it is decided here, nothing is sent.
+#![tactic(auto)]
+
 mod nexts;
 mod views;
 mod waits;

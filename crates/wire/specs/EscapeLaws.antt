@@ -2,7 +2,7 @@
 use Rattle.std.specs.Prelude.{ℕ, ◌*◌, ◌≤◌, ◌<◌, Bool, true, false, ◌||◌, List, [], ◌∷◌, ◌++◌, ◌≡◌, refl, eqb, length}
 use Rattle.std.proofs.lemmas.Bool.{false≢true}
 use Rattle.std.proofs.Common.{true≢false, append_assoc, append-nil, ◌∙◌, arith, eqb-true, length-append}
-use Rattle.octets.specs.Choice.{either_way}
+use Rattle.octets.proofs.Choice.{either_way}
 use Rattle.wire.specs.Escape.{head_mark, escape_mark, tail_mark, one_of, is_mark, second_of, may_follow, original_of, escape_of, escaped}
 
 -- Where neither of two tests holds, the first does not.

@@ -3,9 +3,9 @@ use Rattle.std.specs.Prelude.{ℕ, suc, ◌+◌, ◌-◌, ◌≤◌, ◌<◌, Bo
 use Rattle.std.proofs.lemmas.Bool.{false≢true}
 use Rattle.std.proofs.Common.{sym, ap, ◌∙◌, arith, le-leb, leb-true, eq-eqb, eqb-true, length-append, length-take, length-drop, take_at, take-add, take-suc, take_all, drop-cons, length-take-le}
 use Rattle.std.proofs.lemmas.List.{get_or_at}
-use Rattle.octets.specs.Lists.{bytes_take, bytes_drop, byte_at}
+use Rattle.octets.proofs.Lists.{bytes_take, bytes_drop, byte_at}
 use Rattle.octets.specs.Octets.{Bytes, number_at, spelled, xor_of}
-use Rattle.octets.specs.OctetsLaws.{little_spelled, spelled_little}
+use Rattle.octets.proofs.OctetsLaws.{little_spelled, spelled_little}
 use Rattle.wire.specs.Frame.{Frame, frame, Acceptable, device, longest_payload, shortest_content, longest_content}
 use Rattle.wire.specs.Frame.{unchecked_of, content_of, verdict_of, is_good, is_content, frame_in}
 use Rattle.wire.specs.declared.content.Verdict.{Verdict}

@@ -4,7 +4,7 @@ use Rattle.std.proofs.Common.{append_assoc, sym, ap, ◌∙◌, add-one, arith, 
 use Rattle.std.proofs.lemmas.List.Edits.{sets}
 use Rattle.octets.specs.Octets.{spelled, xor_of, laid, over}
 use borrow.Author.Tests.{lt-ltb, le-ltb}
-use Rattle.octets.specs.OctetsLaws.{over_nil, over_laid, over_put, over_sets, over_over, length_over, length_spelled}
+use Rattle.octets.proofs.OctetsLaws.{over_nil, over_laid, over_put, over_sets, over_over, length_over, length_spelled}
 use Rattle.wire.specs.Escape.{head_mark, escape_mark, tail_mark, is_mark, second_of, escape_of, escaped}
 use Rattle.refusals.specs.Refusals.{payload_too_long, no_room}
 use Rattle.wire.specs.Write.{write_of}

@@ -1,5 +1,7 @@
 // A frame on the wire: head, escaped content, tail. Content is Length, device, command, payload and
 // check. The reader of frames stands above this crate.
+#![tactic(auto)]
+
 mod content;
 mod escape;
 mod writer;

@@ -4,7 +4,7 @@ use borrow.Author.Tests.{lt-ltb, le-ltb}
 use lib.ListN.{length}
 use Rattle.wire.specs.Frame.{longest_content}
 use Rattle.octets.specs.Octets.{laid}
-use Rattle.octets.specs.Choice.{cond_yes}
+use Rattle.octets.proofs.Choice.{cond_yes}
 use Rattle.kept_reader.specs.Kept.{store_place, bytes_of, reader_kept}
 use Rattle.kept_reader.specs.KeptLaws.{words_and_store, kept_over}
 use borrow.Author.Rules.{rules}

@@ -1,7 +1,7 @@
 -- `new`: the bytes of a fresh reader, where they have room.
 use borrow.Author.Tests.{lt-ltb, le-ltb}
 use mathlib.Core.Path.{sym}
-use Rattle.octets.specs.Choice.{cond_yes, cond_no}
+use Rattle.octets.proofs.Choice.{cond_yes, cond_no}
 use Rattle.kept_reader.specs.Kept.{kept_new}
 use Rattle.kept_reader.specs.KeptLaws.{kept_over}
 use borrow.Author.Rules.{rules}

@@ -1,6 +1,6 @@
 -- `reader_in`: bytes that stand for no reader are a fresh one.
 use mathlib.Core.Path.{sym, ◌∙◌}
-use Rattle.octets.specs.Choice.{cond_yes, cond_no, test_passed, test_failed}
+use Rattle.octets.proofs.Choice.{cond_yes, cond_no, test_passed, test_failed}
 use Rattle.kept_reader.specs.Kept.{reader_in}
 use Rattle.kept_reader.specs.KeptLaws.{stands_room}
 use borrow.Author.Rules.{rules}

@@ -1,7 +1,7 @@
 -- `step`: the reader's own step between reading it and writing it back.
 use borrow.Author.Tests.{lt-ltb, le-ltb}
 use mathlib.Core.Path.{sym}
-use Rattle.octets.specs.Choice.{cond_yes, cond_no}
+use Rattle.octets.proofs.Choice.{cond_yes, cond_no}
 use Rattle.kept_reader.specs.Kept.{kept_step}
 use Rattle.kept_reader.specs.KeptLaws.{kept_over}
 use borrow.Author.Rules.{rules}

@@ -6,7 +6,7 @@ use native.Mathlib.Omega.{arith}
 use lib.ListN.{length, drop, get_or, length-drop}
 use lib.Seq.{drop-drop}
 use Rattle.octets.specs.Octets.{text_length, part_of}
-use Rattle.octets.specs.OctetsLaws.{text_within}
+use Rattle.octets.proofs.OctetsLaws.{text_within}
 use Rattle.refusals.specs.Rows.{row_of}
 use Rattle.refusals.specs.RowsLaws.{row_here, row_next}
 use Rattle.refusals.proofs.row_of.Statement.{statement}

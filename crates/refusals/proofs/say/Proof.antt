@@ -4,7 +4,7 @@ use mathlib.Core.Path.{◌≡◌, ap, ◌∙◌}
 use native.Mathlib.Nat.{min-le_right}
 use native.Mathlib.Omega.{arith}
 use lib.ListN.{length}
-use Rattle.octets.specs.Lists.{front_of}
+use Rattle.octets.proofs.Lists.{front_of}
 use borrow.Author.Rules.{rules}
 use Rattle.refusals.proofs.say.Statement.{statement}
 use Rattle.refusals.proofs.say.Tie as tie

@@ -2,7 +2,7 @@
 use borrow.Author.Rules.{rules}
 use mathlib.Core.Path.{sym}
 use native.Mathlib.Omega.{arith}
-use Rattle.octets.specs.OctetsLaws.{number_past}
+use Rattle.octets.proofs.OctetsLaws.{number_past}
 use Rattle.flat.specs.WordsLaws.{number_eight}
 use Rattle.flat.proofs.words.eight_at.Statement.{statement}
 use Rattle.flat.proofs.words.eight_at.Tie as tie

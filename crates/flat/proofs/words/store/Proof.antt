@@ -6,8 +6,8 @@ use native.Mathlib.Omega.{arith}
 use lib.ListN.{length, take, get_or}
 use lib.Seq.{take_all}
 use Rattle.octets.specs.Octets.{spelled, laid, over}
-use Rattle.octets.specs.OctetsLaws.{over_nil}
-use Rattle.octets.specs.Choice.{cond_yes, cond_no}
+use Rattle.octets.proofs.OctetsLaws.{over_nil}
+use Rattle.octets.proofs.Choice.{cond_yes, cond_no}
 use Rattle.flat.specs.Words.{spelled_all, recorded}
 use Rattle.flat.specs.WordsLaws.{words_laid, length_words}
 use Rattle.flat.proofs.words.store.Statement.{statement}

@@ -2,7 +2,7 @@
 use borrow.Author.Rules.{rules}
 use mathlib.Core.Path.{sym, ap, ◌∙◌}
 use borrow.Author.Tests.{eq-eqb, ne_eqb}
-use Rattle.octets.specs.Choice.{cond_yes, cond_no}
+use Rattle.octets.proofs.Choice.{cond_yes, cond_no}
 use Rattle.host_end.specs.HostEnd.{host_left, beside, line_heard}
 use Rattle.host_end.proofs.end.line.Statement.{statement}
 use Rattle.host_end.proofs.end.line.Tie as tie

@@ -7,7 +7,7 @@ use mathlib.Core.Path.{◌≡◌, sym, ◌∙◌}
 use borrow.Author.Tests.{ltb-true}
 use lib.ListN.{length}
 use native.Mathlib.Omega.{arith}
-use Rattle.octets.specs.Choice.{cond_yes, cond_no, both}
+use Rattle.octets.proofs.Choice.{cond_yes, cond_no, both}
 use Rattle.host_end.specs.Text.{followed, stands}
 use Rattle.host_end.proofs.text.follow.Statement.{statement}
 use Rattle.host_end.proofs.text.follow.Tie as tie

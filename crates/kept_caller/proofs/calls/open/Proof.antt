@@ -1,7 +1,7 @@
 -- `open`: 2 where there is no room, else what the opening gives, with a fresh reader.
 use mathlib.Core.Path.{sym}
 use borrow.Author.Tests.{lt-ltb, le-ltb}
-use Rattle.octets.specs.Choice.{cond_yes, cond_no}
+use Rattle.octets.proofs.Choice.{cond_yes, cond_no}
 use Rattle.kept_caller.specs.Kept.{kept_opening}
 use Rattle.kept_caller.specs.KeptLaws.{opening_by_law}
 use borrow.Author.Rules.{rules}

@@ -1,7 +1,7 @@
 -- `wait`: the caller's own, between reading it and putting it back.
 use mathlib.Core.Path.{sym, ap, ◌∙◌}
 use borrow.Author.Tests.{lt-ltb, le-ltb}
-use Rattle.octets.specs.Choice.{cond_yes, cond_no}
+use Rattle.octets.proofs.Choice.{cond_yes, cond_no}
 use Rattle.posts.specs.Caller.{caller_waits}
 use Rattle.posts.specs.declared.caller.Caller.{Caller}
 use Rattle.kept_caller.specs.Kept.{kept_waits}

@@ -1,7 +1,7 @@
 -- `keep`: written where the bytes keep a session.
 use borrow.Author.Rules.{rules}
 use mathlib.Core.Path.{sym, ◌∙◌}
-use Rattle.octets.specs.Choice.{cond_yes, cond_no}
+use Rattle.octets.proofs.Choice.{cond_yes, cond_no}
 use Rattle.kept_host.specs.Kept.{kept_of}
 use Rattle.kept_host.proofs.kept.keep.Statement.{statement}
 use Rattle.kept_host.proofs.kept.keep.Tie as tie

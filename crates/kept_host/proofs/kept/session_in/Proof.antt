@@ -1,7 +1,7 @@
 -- `session_in`: the numbers where they stand, else an ended session.
 use borrow.Author.Rules.{rules}
 use mathlib.Core.Path.{sym, ap, ◌∙◌}
-use Rattle.octets.specs.Choice.{cond_yes, cond_no}
+use Rattle.octets.proofs.Choice.{cond_yes, cond_no}
 use Rattle.host.specs.Step.{ended_of}
 use Rattle.kept_host.specs.Kept.{session_in}
 use Rattle.kept_host.proofs.kept.session_in.Statement.{statement}

@@ -2,7 +2,7 @@
 use borrow.Author.Rules.{rules}
 use mathlib.Core.Bool.{Bool, ◌&&◌}
 use mathlib.Core.Path.{refl, sym, ap, ◌∙◌}
-use Rattle.octets.specs.Choice.{test_passed, test_failed}
+use Rattle.octets.proofs.Choice.{test_passed, test_failed}
 use Rattle.host.specs.Session.{arises}
 use Rattle.kept_host.specs.Kept.{fields_in, stands}
 use Rattle.kept_host.specs.KeptLaws.{compared}

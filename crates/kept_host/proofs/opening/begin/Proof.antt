@@ -1,7 +1,7 @@
 -- `begin`: wishes that are none, and the opening with those read.
 use borrow.Author.Rules.{rules}
 use mathlib.Core.Path.{sym, ap, ◌∙◌}
-use Rattle.octets.specs.Choice.{cond_yes, cond_no, test_passed, test_failed}
+use Rattle.octets.proofs.Choice.{cond_yes, cond_no, test_passed, test_failed}
 use Rattle.host.specs.Session.{stepped}
 use Rattle.host.specs.Step.{left}
 use Rattle.host.specs.declared.session.Session.{Session}

@@ -2,7 +2,7 @@
 use borrow.Author.Rules.{rules}
 use mathlib.Core.Path.{sym, ◌∙◌}
 use borrow.Author.Tests.{lt-ltb, le-ltb}
-use Rattle.octets.specs.Choice.{cond_yes, cond_no}
+use Rattle.octets.proofs.Choice.{cond_yes, cond_no}
 use Rattle.kept_host.specs.Kept.{kept_opening}
 use Rattle.kept_host.specs.KeptLaws.{open_kept}
 use Rattle.kept_host.proofs.opening.open.Statement.{statement}

@@ -1,7 +1,7 @@
 -- `open`: 2 where there is no room, else what the opening gives is recorded.
 use mathlib.Core.Path.{sym}
 use borrow.Author.Tests.{lt-ltb}
-use Rattle.octets.specs.Choice.{cond_yes}
+use Rattle.octets.proofs.Choice.{cond_yes}
 use Rattle.kept_module.specs.Kept.{kept_opening}
 use Rattle.kept_module.specs.CallLaws.{opening_by_law}
 use borrow.Author.Rules.{rules}

@@ -1,7 +1,7 @@
 -- `session_of`: the two cases of the definition.
 use borrow.Author.Rules.{rules}
 use mathlib.Core.Path.{sym}
-use Rattle.octets.specs.Choice.{cond_no}
+use Rattle.octets.proofs.Choice.{cond_no}
 use Rattle.kept_module.proofs.reading.session_of.Statement.{statement}
 use Rattle.kept_module.proofs.reading.session_of.Tie as tie
 

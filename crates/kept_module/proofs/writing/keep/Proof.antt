@@ -1,6 +1,6 @@
 -- `keep`: written where it stood.
 use mathlib.Core.Path.{sym, ◌∙◌}
-use Rattle.octets.specs.Choice.{cond_yes}
+use Rattle.octets.proofs.Choice.{cond_yes}
 use borrow.Author.Rules.{rules}
 use Rattle.kept_module.proofs.writing.keep.Statement.{statement}
 use Rattle.kept_module.proofs.writing.keep.Tie as tie

@@ -1,7 +1,7 @@
 -- `hear`: the post's own, between reading it and putting it back.
 use mathlib.Core.Path.{sym, ap, ◌∙◌}
 use borrow.Author.Tests.{lt-ltb, le-ltb}
-use Rattle.octets.specs.Choice.{cond_yes, cond_no}
+use Rattle.octets.proofs.Choice.{cond_yes, cond_no}
 use Rattle.posts.specs.Post.{post_hears}
 use Rattle.posts.specs.declared.post.Post.{Post}
 use Rattle.kept_post.specs.Kept.{kept_hears}

@@ -1,7 +1,7 @@
 -- `new`: one that waits, where it has room.
 use mathlib.Core.Path.{sym}
 use borrow.Author.Tests.{lt-ltb, le-ltb}
-use Rattle.octets.specs.Choice.{cond_yes, cond_no}
+use Rattle.octets.proofs.Choice.{cond_yes, cond_no}
 use Rattle.kept_post.specs.Kept.{kept_new}
 use borrow.Author.Rules.{rules}
 use Rattle.kept_post.proofs.calls.new.Statement.{statement}

@@ -1,7 +1,7 @@
 -- `open`: one with a session, where it has room.
 use mathlib.Core.Path.{sym}
 use borrow.Author.Tests.{lt-ltb, le-ltb}
-use Rattle.octets.specs.Choice.{cond_yes, cond_no}
+use Rattle.octets.proofs.Choice.{cond_yes, cond_no}
 use Rattle.kept_post.specs.Kept.{kept_opening}
 use borrow.Author.Rules.{rules}
 use Rattle.kept_post.proofs.calls.open.Statement.{statement}

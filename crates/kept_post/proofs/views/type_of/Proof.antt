@@ -1,7 +1,7 @@
 -- `type_of`: none before there is a transfer.
 use mathlib.Core.Path.{sym, ◌∙◌}
 use borrow.Author.Tests.{lt-ltb, le-ltb}
-use Rattle.octets.specs.Choice.{cond_yes, cond_no}
+use Rattle.octets.proofs.Choice.{cond_yes, cond_no}
 use Rattle.kept_post.specs.Kept.{type_in}
 use borrow.Author.Rules.{rules}
 use Rattle.kept_post.proofs.views.type_of.Statement.{statement}

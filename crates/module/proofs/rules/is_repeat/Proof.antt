@@ -1,6 +1,6 @@
 -- `module::is_repeat`: the numbers are tested, then the bytes.
 use mathlib.Core.Path.{sym, ap, ◌∙◌}
-use Rattle.octets.specs.Choice.{test_passed, test_failed}
+use Rattle.octets.proofs.Choice.{test_passed, test_failed}
 use Rattle.octets.specs.Octets.{part_of, same_bytes}
 use Rattle.module_model.specs.RulesLaws.{repeat_other, repeat_bytes}
 use borrow.Author.Rules.{rules}

@@ -1,7 +1,7 @@
 -- `module::packet`: the form of the payload decides, then the phase.
 use Prim.Native.Nat.{ℕ}
 use mathlib.Core.Path.{◌≡◌, sym, ap, ap₂, ◌∙◌}
-use Rattle.octets.specs.Choice.{test_passed, test_failed}
+use Rattle.octets.proofs.Choice.{test_passed, test_failed}
 use Rattle.module_model.specs.Rules.{numbers_in, well_formed, phase_decision}
 use Rattle.module_model.specs.RulesLaws.{formed, packet_formed, packet_unformed}
 use borrow.Author.Rules.{rules}

@@ -1,6 +1,6 @@
 -- `module::parameters_of`: the address decides, then the length.
 use mathlib.Core.Path.{◌≡◌, sym, ap, ◌∙◌}
-use Rattle.octets.specs.Choice.{test_passed, test_failed}
+use Rattle.octets.proofs.Choice.{test_passed, test_failed}
 use Rattle.octets.specs.Octets.{number_at}
 use Rattle.kinds.specs.Kinds.{token_of, fits_flash}
 use Rattle.commands.specs.Commands.{accepted}

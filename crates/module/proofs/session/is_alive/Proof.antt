@@ -1,6 +1,6 @@
 -- `is_alive`: a flash that can be opened, then the idle sum.
 use borrow.Author.Rules.{rules}
-use Rattle.octets.specs.Choice.{test_passed, test_failed}
+use Rattle.octets.proofs.Choice.{test_passed, test_failed}
 use Rattle.module_model.specs.Phases.{alive}
 use Rattle.module.proofs.session.is_alive.Statement.{statement}
 use Rattle.module.proofs.session.is_alive.Tie as tie

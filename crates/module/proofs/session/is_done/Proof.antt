@@ -2,7 +2,7 @@
 use borrow.Author.Rules.{rules}
 use mathlib.Core.Bool.{true}
 use mathlib.Core.Path.{◌≡◌}
-use Rattle.octets.specs.Choice.{test_passed, test_failed}
+use Rattle.octets.proofs.Choice.{test_passed, test_failed}
 use Rattle.module_model.specs.Phases.{fits, cuts, done_arises}
 use Rattle.module.proofs.session.is_done.Statement.{statement}
 use Rattle.module.proofs.session.is_done.Tie as tie

@@ -6,7 +6,7 @@ use mathlib.Core.Path.{◌≡◌}
 use native.Mathlib.Omega.{arith}
 use native.Mathlib.Nat.{mul-le-mul}
 use borrow.Author.Tests.{le-leb, lt-leb, lt-ltb, le-ltb}
-use Rattle.octets.specs.Choice.{test_passed, test_failed}
+use Rattle.octets.proofs.Choice.{test_passed, test_failed}
 use Rattle.commands.specs.Commands.{largest_packet, largest_total}
 use Rattle.module_model.specs.Phases.{total_of, fits, cuts, loading_arises}
 use Rattle.module_model.specs.PhasesLaws.{cuts_facts}

@@ -1,7 +1,7 @@
 -- `agreed_rate`: a rate that is one, and the reply that agrees to it.
 use Rattle.std.proofs.Common.{rules, le-leb}
 use borrow.Author.Tests.{lt-leb}
-use Rattle.octets.specs.Choice.{test_passed, test_failed}
+use Rattle.octets.proofs.Choice.{test_passed, test_failed}
 use Rattle.posts.specs.Agreed.{agreed_in}
 use Rattle.posts.proofs.agreed.agreed_rate.Statement.{statement}
 use Rattle.posts.proofs.agreed.agreed_rate.Tie as tie

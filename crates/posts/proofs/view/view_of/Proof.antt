@@ -1,6 +1,6 @@
 -- `view_of`: a session that takes no events is seen as closed.
 use Rattle.std.proofs.Common.{sym, ◌∙◌, rules}
-use Rattle.octets.specs.Choice.{cond_yes, cond_no, test_passed, test_failed}
+use Rattle.octets.proofs.Choice.{cond_yes, cond_no, test_passed, test_failed}
 use Rattle.posts.specs.View.{view_of}
 use Rattle.posts.proofs.view.view_of.Statement.{statement}
 use Rattle.posts.proofs.view.view_of.Tie as tie

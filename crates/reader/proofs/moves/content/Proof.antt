@@ -1,7 +1,7 @@
 -- `reader::content`: the count decides whether there is room.
 use borrow.Author.Tests.{lt-ltb, le-ltb}
 use mathlib.Core.Path.{sym}
-use Rattle.octets.specs.Choice.{cond_yes, cond_no}
+use Rattle.octets.proofs.Choice.{cond_yes, cond_no}
 use Rattle.reader.specs.Moves.{content_move}
 use Rattle.reader.proofs.moves.content.Statement.{statement}
 use Rattle.reader.proofs.moves.content.Tie as tie

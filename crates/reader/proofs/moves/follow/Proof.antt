@@ -1,6 +1,6 @@
 -- `reader::follow`: the byte after the escape stands for a content byte, or drops the frame.
 use mathlib.Core.Path.{sym, ap, ◌∙◌}
-use Rattle.octets.specs.Choice.{cond_yes, cond_no}
+use Rattle.octets.proofs.Choice.{cond_yes, cond_no}
 use Rattle.reader.specs.Moves.{content_move, follow_move}
 use borrow.Author.Rules.{rules}
 use Rattle.reader.proofs.moves.follow.Statement.{statement}

@@ -1,7 +1,7 @@
 -- `reader::inside`: the tests in the order of the definition.
 use mathlib.Core.Path.{sym, ◌∙◌}
 use borrow.Author.Tests.{eq-eqb, ne_eqb}
-use Rattle.octets.specs.Choice.{cond_yes, cond_no}
+use Rattle.octets.proofs.Choice.{cond_yes, cond_no}
 use Rattle.reader.specs.Moves.{inside_move}
 use borrow.Author.Rules.{rules}
 use Rattle.reader.proofs.moves.inside.Statement.{statement}

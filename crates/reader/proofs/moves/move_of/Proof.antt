@@ -1,7 +1,7 @@
 -- `reader::move_of`: the head, then the inside of a frame, then nothing.
 use mathlib.Core.Path.{sym, ◌∙◌}
 use borrow.Author.Tests.{eq-eqb, ne_eqb}
-use Rattle.octets.specs.Choice.{cond_yes, cond_no}
+use Rattle.octets.proofs.Choice.{cond_yes, cond_no}
 use Rattle.reader.specs.Moves.{move_of}
 use borrow.Author.Rules.{rules}
 use Rattle.reader.proofs.moves.move_of.Statement.{statement}

@@ -1,6 +1,6 @@
 -- `reader::tail`: a pending escape decides.
 use mathlib.Core.Path.{sym}
-use Rattle.octets.specs.Choice.{cond_yes, cond_no}
+use Rattle.octets.proofs.Choice.{cond_yes, cond_no}
 use Rattle.reader.specs.Moves.{tail_move}
 use Rattle.reader.proofs.moves.tail.Statement.{statement}
 use Rattle.reader.proofs.moves.tail.Tie as tie

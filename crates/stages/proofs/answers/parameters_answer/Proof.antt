@@ -1,6 +1,6 @@
 -- `parameters_answer`: the rule of the command, where command and length fit.
 use mathlib.Core.Path.{sym, ap₂, ◌∙◌}
-use Rattle.octets.specs.Choice.{cond_yes, cond_no, test_passed, test_failed}
+use Rattle.octets.proofs.Choice.{cond_yes, cond_no, test_passed, test_failed}
 use Rattle.host_model.specs.Answers.{parameters_move}
 use borrow.Author.Rules.{rules}
 use Rattle.stages.proofs.answers.parameters_answer.Statement.{statement}

@@ -1,5 +1,5 @@
 -- `stage_fits`: each stage by its own tests.
-use Rattle.octets.specs.Choice.{test_passed, test_failed}
+use Rattle.octets.proofs.Choice.{test_passed, test_failed}
 use borrow.Author.Rules.{rules}
 use Rattle.stages.proofs.fits.stage_fits.Statement.{statement}
 use Rattle.stages.proofs.fits.stage_fits.Tie as tie

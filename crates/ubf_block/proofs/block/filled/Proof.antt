@@ -1,6 +1,6 @@
 -- `ubf_block::filled`: the texts as they stand in the block, then the gap.
 use mathlib.Core.Path.{◌≡◌, ap, ◌∙◌}
-use Rattle.octets.specs.Choice.{test_passed, test_failed}
+use Rattle.octets.proofs.Choice.{test_passed, test_failed}
 use Rattle.octets.specs.Octets.{all_zero, part_of}
 use Rattle.ubf_model.specs.Block.{model_in, version_in, name_in, date_in, texts_fit, filled_in}
 use Rattle.ubf_model.specs.Block.{header_size}

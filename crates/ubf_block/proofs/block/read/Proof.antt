@@ -1,7 +1,7 @@
 -- `ubf_block::read`: header and mark first; then the type's kind decides who reads on.
 use mathlib.Core.Path.{◌≡◌, sym, ap, ◌∙◌}
 use borrow.Author.Tests.{le-leb, lt-leb}
-use Rattle.octets.specs.Choice.{cond_yes, cond_no, test_failed, test_passed}
+use Rattle.octets.proofs.Choice.{cond_yes, cond_no, test_failed, test_passed}
 use Rattle.kinds.specs.Kinds.{kind_of}
 use Rattle.ubf_model.specs.Block.{header_size, type_in, known_block, block_of}
 use borrow.Author.Rules.{rules}

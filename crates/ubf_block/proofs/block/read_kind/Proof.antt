@@ -6,7 +6,7 @@ use native.Mathlib.Omega.{arith}
 use borrow.Author.Tests.{eq-eqb, ne_eqb, le-leb, lt-leb}
 use lib.Dec.{eqb, leb}
 use lib.ListN.{length}
-use Rattle.octets.specs.Choice.{cond_yes, cond_no, test_passed, test_failed}
+use Rattle.octets.proofs.Choice.{cond_yes, cond_no, test_passed, test_failed}
 use Rattle.octets.specs.Octets.{number_at, part_of, xor_words}
 use Rattle.kinds.specs.Kinds.{base_of, fits_file}
 use Rattle.ubf_model.specs.Block.{header_size, length_in, address_in, start_in, image_in, check_in, filled_in, kind_block}

@@ -1,5 +1,5 @@
 -- `ubf_block::texts_fit`: the four texts in order; each that fails decides.
-use Rattle.octets.specs.Choice.{test_passed, test_failed}
+use Rattle.octets.proofs.Choice.{test_passed, test_failed}
 use Rattle.ubf_model.specs.Block.{texts_fit}
 use borrow.Author.Rules.{rules}
 use Rattle.ubf_block.proofs.block.texts_fit.Statement.{statement}

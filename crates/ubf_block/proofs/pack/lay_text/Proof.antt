@@ -4,7 +4,7 @@ use mathlib.Core.Path.{ap, ◌∙◌}
 use native.Mathlib.Omega.{arith}
 use lib.ListN.{length, replicate, length-replicate}
 use Rattle.octets.specs.Octets.{laid}
-use Rattle.octets.specs.OctetsLaws.{laid_next}
+use Rattle.octets.proofs.OctetsLaws.{laid_next}
 use Rattle.ubf_model.specs.Pack.{filled}
 use borrow.Author.Rules.{rules}
 use Rattle.ubf_block.proofs.pack.lay_text.Statement.{statement}

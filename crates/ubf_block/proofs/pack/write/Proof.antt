@@ -7,7 +7,7 @@ use native.Mathlib.Omega.{arith}
 use borrow.Author.Tests.{le-leb, lt-leb}
 use lib.Dec.{leb}
 use lib.ListN.{length, replicate}
-use Rattle.octets.specs.Choice.{cond_yes, cond_no, test_passed, test_failed}
+use Rattle.octets.proofs.Choice.{cond_yes, cond_no, test_passed, test_failed}
 use Rattle.octets.specs.Octets.{laid, over, lay_all, spelled, xor_words}
 use Rattle.kinds.specs.Kinds.{kind_of}
 use Rattle.ubf_model.specs.Block.{header_size, texts_fit}

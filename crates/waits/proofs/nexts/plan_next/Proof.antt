@@ -1,7 +1,7 @@
 -- `plan_next`: 8, else the first stage.
 use borrow.Author.Rules.{rules}
 use mathlib.Core.Path.{sym, ap, ◌∙◌}
-use Rattle.octets.specs.Choice.{test_passed, test_failed}
+use Rattle.octets.proofs.Choice.{test_passed, test_failed}
 use Rattle.host_model.specs.Waits.{wait}
 use Rattle.host_model.specs.NextsLaws.{plan_begins, plan_refused}
 use Rattle.host_model.specs.declared.nexts.Next.TheVariants.{Sends}

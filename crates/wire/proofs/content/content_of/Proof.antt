@@ -6,7 +6,7 @@ use native.Mathlib.Omega.{arith}
 use lib.ListN.{length, set, take, replicate, length-replicate}
 use lib.Seq.{length-take-le}
 use Rattle.octets.specs.Octets.{laid, over, xor_of}
-use Rattle.octets.specs.OctetsLaws.{length_over, take_over}
+use Rattle.octets.proofs.OctetsLaws.{length_over, take_over}
 use Rattle.wire.specs.Frame.{Frame, frame, longest_content, unchecked_of, content_of}
 use Rattle.wire.specs.FrameLaws.{length_unchecked, length_content}
 use Rattle.wire.specs.WriteLaws.{unchecked_built, content_built}

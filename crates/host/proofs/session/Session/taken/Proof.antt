@@ -1,6 +1,6 @@
 -- `Session::taken`: ended where the numbers could not arise.
 use borrow.Author.Rules.{rules}
-use Rattle.octets.specs.Choice.{test_passed, test_failed}
+use Rattle.octets.proofs.Choice.{test_passed, test_failed}
 use Rattle.host.specs.Session.{arises}
 use Rattle.host.specs.StepLaws.{taken_arisen, taken_never}
 use Rattle.host.proofs.session.Session.taken.Statement.{statement}

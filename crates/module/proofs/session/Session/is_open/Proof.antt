@@ -1,6 +1,6 @@
 -- `Session::is_open`: alive, and a phase that holds.
 use borrow.Author.Rules.{rules}
-use Rattle.octets.specs.Choice.{test_passed, test_failed}
+use Rattle.octets.proofs.Choice.{test_passed, test_failed}
 use Rattle.module.specs.Session.{takes}
 use Rattle.module.proofs.session.Session.is_open.Statement.{statement}
 use Rattle.module.proofs.session.Session.is_open.Tie as tie

@@ -1,7 +1,7 @@
 -- `Session::opening`: ready, or closed with the refusal.
 use borrow.Author.Rules.{rules}
 use mathlib.Core.Path.{sym, ◌∙◌}
-use Rattle.octets.specs.Choice.{cond_yes, cond_no}
+use Rattle.octets.proofs.Choice.{cond_yes, cond_no}
 use Rattle.module.specs.Session.{opening_of}
 use Rattle.module.proofs.session.Session.opening.Statement.{statement}
 use Rattle.module.proofs.session.Session.opening.Tie as tie

@@ -2,7 +2,7 @@
 use borrow.Author.Rules.{rules}
 use mathlib.Core.Path.{sym, ◌∙◌}
 use borrow.Author.Tests.{le-leb, lt-leb}
-use Rattle.octets.specs.Choice.{cond_yes, cond_no}
+use Rattle.octets.proofs.Choice.{cond_yes, cond_no}
 use Rattle.module.specs.SessionLaws.{takes_facts}
 use Rattle.module.specs.Step.{time_step}
 use Rattle.module.proofs.session.Session.passes.Statement.{statement}

@@ -2,7 +2,7 @@
 use borrow.Author.Rules.{rules}
 use mathlib.Core.Bool.{true}
 use mathlib.Core.Path.{◌≡◌, sym, ap, ◌∙◌}
-use Rattle.octets.specs.Choice.{test_passed, test_failed}
+use Rattle.octets.proofs.Choice.{test_passed, test_failed}
 use Rattle.module.specs.Session.{takes}
 use Rattle.module.specs.Step.{left}
 use Rattle.module.specs.StepLaws.{step_no_room, step_wrong_length, step_closed, step_frame, step_time}

@@ -1,6 +1,6 @@
 -- `Post::begins`: without room nothing, else the answer in the reply and a session.
 use Rattle.std.proofs.Common.{sym, ap, ◌∙◌, rules, le-ltb, lt-ltb}
-use Rattle.octets.specs.Choice.{cond_yes}
+use Rattle.octets.proofs.Choice.{cond_yes}
 use Rattle.posts.specs.Post.{post_left, begins}
 use Rattle.posts.proofs.post.Post.begins.Statement.{statement}
 use Rattle.posts.proofs.post.Post.begins.Tie as tie

@@ -1,6 +1,6 @@
 -- `Post::hear`: the board's step in an open session, else the text.
 use Rattle.std.proofs.Common.{sym, ap, ◌∙◌, rules}
-use Rattle.octets.specs.Choice.{cond_yes, cond_no, test_passed, test_failed}
+use Rattle.octets.proofs.Choice.{cond_yes, cond_no, test_passed, test_failed}
 use Rattle.posts.specs.Post.{went_of, listens, post_hears}
 use Rattle.posts.proofs.post.Post.hear.Statement.{statement}
 use Rattle.posts.proofs.post.Post.hear.Tie as tie

@@ -1,6 +1,6 @@
 -- `Post::listens`: a session begins with the last byte of the text.
 use Rattle.std.proofs.Common.{sym, ap, ◌∙◌, rules, eq-eqb, ne_eqb}
-use Rattle.octets.specs.Choice.{cond_yes, cond_no}
+use Rattle.octets.proofs.Choice.{cond_yes, cond_no}
 use Rattle.posts.specs.Post.{post_left, listens}
 use Rattle.posts.proofs.post.Post.listens.Statement.{statement}
 use Rattle.posts.proofs.post.Post.listens.Tie as tie

@@ -1,6 +1,6 @@
 -- `Post::wait`: the board's step in an open session, else nothing.
 use Rattle.std.proofs.Common.{sym, ap, ◌∙◌, rules}
-use Rattle.octets.specs.Choice.{cond_yes, cond_no, test_passed, test_failed}
+use Rattle.octets.proofs.Choice.{cond_yes, cond_no, test_passed, test_failed}
 use Rattle.posts.specs.Post.{went_of, post_left, post_waits}
 use Rattle.posts.proofs.post.Post.wait.Statement.{statement}
 use Rattle.posts.proofs.post.Post.wait.Tie as tie

@@ -1,6 +1,6 @@
 -- `Reader::begins`: dropped exactly where a frame was open.
 use mathlib.Core.Path.{sym, ap, ◌∙◌}
-use Rattle.octets.specs.Choice.{cond_yes, cond_no}
+use Rattle.octets.proofs.Choice.{cond_yes, cond_no}
 use Rattle.reader.specs.Reader.{answers, opened_of}
 use borrow.Author.Rules.{rules}
 use Rattle.reader.proofs.steps.Reader.begins.Statement.{statement}

@@ -2,7 +2,7 @@
 use native.Mathlib.Omega.{arith}
 use borrow.Author.Tests.{le-leb, lt-leb}
 use mathlib.Core.Path.{sym, ap, ◌∙◌}
-use Rattle.octets.specs.Choice.{cond_yes, cond_no}
+use Rattle.octets.proofs.Choice.{cond_yes, cond_no}
 use Rattle.reader.specs.Reader.{fresh, known_of}
 use borrow.Author.Rules.{rules}
 use Rattle.reader.proofs.steps.Reader.known.Statement.{statement}

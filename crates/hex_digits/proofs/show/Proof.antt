@@ -6,9 +6,9 @@ use mathlib.Core.Path.{◌≡◌, refl, sym, ap, ◌∙◌}
 use native.Mathlib.Omega.{arith}
 use lib.ListN.{length, take, length-set}
 use lib.Seq.{length-take-le}
-use Rattle.octets.specs.Lists.{take_least, front_of}
+use Rattle.octets.proofs.Lists.{take_least, front_of}
 use Rattle.octets.specs.Octets.{over}
-use Rattle.octets.specs.OctetsLaws.{over_nil}
+use Rattle.octets.proofs.OctetsLaws.{over_nil}
 use Rattle.hex.specs.Hex.{hex_of, show_of}
 use Rattle.hex.specs.HexLaws.{length_hex, hex_more}
 use Rattle.hex.proofs.show.Statement.{statement}

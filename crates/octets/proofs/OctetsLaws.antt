@@ -10,7 +10,7 @@ use Rattle.std.specs.Int.Bits.{bit_xor}
 use Rattle.std.proofs.Math.ListN.{get_or-append}
 use Rattle.std.proofs.Math.Seq.{drop-length, take-length, take-nil, drop-nil, set-append_seam, append_snoc, paste, drop-append-add}
 use Rattle.std.proofs.lemmas.List.Edits.{sets}
-use Rattle.octets.specs.Choice.{both, either_way}
+use Rattle.octets.proofs.Choice.{both, either_way}
 use Rattle.octets.specs.Octets.{text_length, xor_words_from, Bytes, little, spelled, number_at, xor_from, xor_of, all_zero, same_bytes, laid, over}
 
 -- ---- xor

@@ -1,4 +1,6 @@
 // Bytes as the papers print them: two capital hex digits each.
+#![tactic(auto)]
+
 ghost use Rattle.std.specs.Prelude.{◌≡◌, ◌<◌};
 ghost use Rattle.octets.specs.Octets.{Front};
 ghost use Rattle.hex.specs.Hex.{digit_of, show_of};

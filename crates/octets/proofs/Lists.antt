@@ -17,6 +17,7 @@ part_take m (suc n) (suc k) (x ∷ l) h = part_take m n k l (omega arith)
 
 -- Two functions that are the same over a list are the same at each of its elements.
 pub same_each : {A B : Type 0} (f g : A → B) (l : List A) → map f l ≡ map g l → (a : A) → Memᴰ a l → f a ≡ g a
+same_each f g [] e a m = absurd (Memᴰ.not-nil m)
 same_each f g (x ∷ l) e a (Memᴰ.head p) = cc
 same_each f g (x ∷ l) e a (Memᴰ.tail m) = same_each f g l (cc) a m
 

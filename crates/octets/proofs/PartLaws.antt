@@ -4,11 +4,11 @@ use Rattle.std.proofs.Common.{append_assoc, append-nil, sym, ap, ap₂, ◌∙�
 use Rattle.std.proofs.Math.Nat.{min-le_left}
 use Rattle.std.specs.Int.Bits.{bit_xor}
 use Rattle.std.proofs.lemmas.Nat.{xor_lt}
-use Rattle.octets.specs.Choice.{both, by_test}
-use Rattle.octets.specs.Lists.{bytes_take, bytes_drop}
+use Rattle.octets.proofs.Choice.{both, by_test}
+use Rattle.octets.proofs.Lists.{bytes_take, bytes_drop}
 use Rattle.octets.specs.Octets.{Pieces, end_to_end, lay_all, laid, over}
 use Rattle.octets.specs.Octets.{Bytes, little, spelled, number_at, part_of, all_zero, text_length, zero_filled, xor_words_from}
-use Rattle.octets.specs.OctetsLaws.{little_spelled, spelled_little, over_laid, laid_next, laid_length}
+use Rattle.octets.proofs.OctetsLaws.{little_spelled, spelled_little, over_laid, laid_next, laid_length}
 
 -- ---- a part
 

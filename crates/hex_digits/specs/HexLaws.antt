@@ -2,7 +2,7 @@
 use Rattle.std.specs.Prelude.{ℕ, ◌+◌, ◌*◌, ◌/◌, ◌%◌, ◌<◌, List, [], ◌∷◌, ◌++◌, ◌≡◌, refl, length, get_or, take, set}
 use Rattle.std.proofs.Common.{ap, ◌∙◌, add-one, arith, take-suc, length-take-le}
 use Rattle.octets.specs.Octets.{over}
-use Rattle.octets.specs.OctetsLaws.{over_sets}
+use Rattle.octets.proofs.OctetsLaws.{over_sets}
 use Rattle.hex.specs.Hex.{digit_of, hex_of}
 
 pub length_hex : (bs : List ℕ) → length (hex_of bs) ≡ length bs * 2

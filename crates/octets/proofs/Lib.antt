@@ -1,0 +1,5 @@
+-- The laws and theorems of this crate.
+pub mod OctetsLaws
+pub mod Lists
+pub mod Choice
+pub mod PartLaws
