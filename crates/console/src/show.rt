@@ -50,7 +50,7 @@ fn larger(a: usize, b: usize) -> usize {
 // One place of a row: a byte, or none.
 fn place(byte: &[u8]) {
     let mut digits = [b' '; 2];
-    hex::show(byte, &mut digits);
+    hex_digits::show(byte, &mut digits);
     say(b" ");
     say(&digits);
 }

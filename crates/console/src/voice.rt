@@ -58,7 +58,7 @@ pub fn word(fd: i32, x: u32) {
         (x % 256) as u8,
     ];
     let mut digits = [0u8; 8];
-    let n = hex::show(&bytes, &mut digits);
+    let n = hex_digits::show(&bytes, &mut digits);
     say(fd, b"0x");
     say(fd, &digits[..n]);
 }
@@ -66,6 +66,6 @@ pub fn word(fd: i32, x: u32) {
 // A byte in two hex digits.
 pub fn byte(fd: i32, x: u8) {
     let mut digits = [0u8; 2];
-    let n = hex::show(&[x], &mut digits);
+    let n = hex_digits::show(&[x], &mut digits);
     say(fd, &digits[..n]);
 }

@@ -104,6 +104,6 @@ fn show_frame(command: u8, payload: &[u8]) {
 
 fn show_bytes(bytes: &[u8]) {
     let mut digits = [0u8; 2060];
-    let n = hex::show(bytes, &mut digits);
+    let n = hex_digits::show(bytes, &mut digits);
     io::write_all(STDOUT_FILENO, &digits[..n]);
 }

@@ -3,7 +3,7 @@ use Rattle.std.specs.Prelude.{ℕ, ◌+◌, ◌*◌, ◌/◌, ◌%◌, ◌<◌, 
 use Rattle.std.proofs.Common.{ap, ◌∙◌, add-one, arith, take-suc, length-take-le}
 use Rattle.octets.specs.Octets.{over}
 use Rattle.octets.proofs.OctetsLaws.{over_sets}
-use Rattle.hex.specs.Hex.{digit_of, hex_of}
+use Rattle.hex_digits.specs.Hex.{digit_of, hex_of}
 
 pub length_hex : (bs : List ℕ) → length (hex_of bs) ≡ length bs * 2
 unfolding hex_of

@@ -3,7 +3,7 @@
 
 ghost use Rattle.std.specs.Prelude.{◌≡◌, ◌<◌};
 ghost use Rattle.octets.specs.Octets.{Front};
-ghost use Rattle.hex.specs.Hex.{digit_of, show_of};
+ghost use Rattle.hex_digits.specs.Hex.{digit_of, show_of};
 
 // Puts the digits of as many bytes as there is room for at the front of the output, and answers how many digits that is.
 pub fn show(bytes: &[u8], out: &mut [u8]) -> usize

@@ -1,7 +1,7 @@
 -- What is found in the bytes of a table are the words of its row.
 use Rattle.std.specs.Prelude.{ℕ, suc, ◌+◌, true, not, List, [], ◌∷◌, ◌++◌, ◌≡◌, refl, eqb, length, take, drop, get_or}
 use Rattle.std.proofs.Common.{ap, arith, take_at, eq-eqb, ne_eqb}
-use Rattle.std.proofs.lemmas.Bool.{not_true as not-of}
+use Rattle.std.proofs.lemmas.Bool.{not-true as not_of}
 use Rattle.octets.proofs.Choice.{both}
 use Rattle.octets.specs.Octets.{text_length}
 use Rattle.refusals.specs.Refusals.{Row, words_in, words_of, table}
@@ -12,7 +12,7 @@ text_plain : (w rest : List ℕ) → plain w ≡ true → text_length (w ++ (0 �
 unfolding text_length
 text_plain [] rest h = refl
 text_plain (b ∷ w) rest h =
-    let tests = both (not (eqb b 0)) (plain w) h in rw (not-of (eqb b 0) tests.0) (ap suc (text_plain w rest tests.1))
+    let tests = both (not (eqb b 0)) (plain w) h in rw (not_of (eqb b 0) tests.0) (ap suc (text_plain w rest tests.1))
 
 -- What stands behind words and their zero.
 row_past : (w rest : List ℕ) → drop (length w + 1) (w ++ (0 ∷ rest)) ≡ rest

@@ -1,0 +1,78 @@
+-- `wire::judge`: the tests in the order of the definition; each that fails decides.
+use Prim.Native.Nat.{ℕ, ◌-◌, ◌≤◌}
+use mathlib.Core.Bool.{Bool, cond}
+use mathlib.Core.List.{List}
+use mathlib.Core.Path.{◌≡◌, sym, ◌∙◌}
+use lib.Dec.{eqb}
+use native.Mathlib.Omega.{arith}
+use borrow.Author.Tests.{le-leb, lt-leb, eq-eqb, ne_eqb}
+use lib.ListN.{length, get_or, take}
+use lib.Seq.{length-take-le}
+use Rattle.octets.specs.Octets.{number_at, xor_of}
+use Rattle.wire.specs.Frame.{device, shortest_content, longest_content, verdict_of}
+use Rattle.wire.specs.declared.content.Verdict.TheVariants.{Good, Bad}
+use Rattle.wire.proofs.content.judge.Goals as goal
+
+at-check : (s : List ℕ) {right : Bool} → 5 ≤ length s → length s ≤ longest_content → number_at 2 s 0 ≡ length s - 2 → get_or s 2 0 ≡ device
+    → eqb (get_or s (length s - 1) 0) (xor_of (take (length s - 1) s)) ≡ right → verdict_of s ≡ cond right Good Bad
+unfolding verdict_of
+at-check s long short counted ours check =
+    rw (
+      le-leb shortest_content (length s) long,
+      le-leb (length s) longest_content short,
+      eq-eqb (number_at 2 s 0) (length s - 2) counted,
+      eq-eqb (get_or s 2 0) device ours,
+      check,
+    )
+
+pub returns-then-n-lt-CONTENT_LEAST : goal.returns-then-n-lt-CONTENT_LEAST
+unfolding verdict_of
+returns-then-n-lt-CONTENT_LEAST c = rw (lt-leb 5 _ c.if-n-lt-CONTENT_LEAST.true)
+
+pub returns-then-n-gt-CONTENT_MOST : goal.returns-then-n-gt-CONTENT_MOST
+unfolding verdict_of
+returns-then-n-gt-CONTENT_MOST c =
+    let s = c.args.content.now in
+    rw (le-leb 5 (length s) c.if-n-lt-CONTENT_LEAST.false, lt-leb (length s) 1035 c.if-n-gt-CONTENT_MOST.true)
+
+pub returns-then-two_at-n : goal.returns-then-two_at-n
+unfolding verdict_of
+returns-then-two_at-n c =
+    let s = c.args.content.now in
+    rw (
+      le-leb 5 (length s) c.if-n-lt-CONTENT_LEAST.false,
+      le-leb (length s) 1035 c.if-n-gt-CONTENT_MOST.false,
+      ne_eqb (number_at 2 s 0) (length s - 2) (λ e. c.if-two_at-n.true (c.two_at.ensures ∙ e)),
+    )
+
+pub returns-then-byte_at-ne-DEVICE : goal.returns-then-byte_at-ne-DEVICE
+unfolding verdict_of
+returns-then-byte_at-ne-DEVICE c =
+    let s = c.args.content.now in
+    rw (
+      le-leb 5 (length s) c.if-n-lt-CONTENT_LEAST.false,
+      le-leb (length s) 1035 c.if-n-gt-CONTENT_MOST.false,
+      eq-eqb (number_at 2 s 0) (length s - 2) (sym c.two_at.ensures ∙ c.if-two_at-n.false),
+      ne_eqb (get_or s 2 0) 1 (λ e. c.if-byte_at-ne-DEVICE.true (c.byte_at.ensures ∙ e)),
+    )
+
+pub slice_bounds-xor-length : goal.slice_bounds-xor-length
+slice_bounds-xor-length c = sym (length-take-le _ _ (omega arith))
+
+pub returns-then-byte_at-xor : goal.returns-then-byte_at-xor
+returns-then-byte_at-xor c =
+    let s = c.args.content.now in
+    sym (at-check s c.if-n-lt-CONTENT_LEAST.false
+    c.if-n-gt-CONTENT_MOST.false
+    (sym c.two_at.ensures ∙ c.if-two_at-n.false)
+    (sym c.byte_at.ensures ∙ c.if-byte_at-ne-DEVICE.false)
+    (ne_eqb (get_or s (length s - 1) 0) (xor_of (take (length s - 1) s)) (λ e. c.if-byte_at-xor.true (c.byte_at-2.ensures ∙ e ∙ sym c.xor.ensures))))
+
+pub returns : goal.returns
+returns c =
+    let s = c.args.content.now in
+    sym (at-check s c.if-n-lt-CONTENT_LEAST.false
+    c.if-n-gt-CONTENT_MOST.false
+    (sym c.two_at.ensures ∙ c.if-two_at-n.false)
+    (sym c.byte_at.ensures ∙ c.if-byte_at-ne-DEVICE.false)
+    (eq-eqb (get_or s (length s - 1) 0) (xor_of (take (length s - 1) s)) (sym c.byte_at-2.ensures ∙ c.if-byte_at-xor.false ∙ c.xor.ensures)))
