@@ -1,7 +1,7 @@
 // The flash in its file: only what a packet has changed is written.
 use posts::View;
 
-#[derive(Drop)]
+#[derive(Clone, Copy)]
 pub struct Kept {
     pub count: usize,
     pub failed: bool,

@@ -6,14 +6,14 @@ use module::Answer;
 use posts::{Post, PostStep, View};
 
 // The line, and the file of the flash.
-#[derive(Drop)]
+#[derive(Clone, Copy)]
 pub struct Port {
     pub cable: Cable,
     pub file: i32,
 }
 
 // What has been done, and whether there is more to do.
-#[derive(Drop)]
+#[derive(Clone, Copy)]
 pub struct Log {
     pub more: bool,
     pub replies: usize,
@@ -22,7 +22,7 @@ pub struct Log {
 }
 
 // More is the log's, where a loop can see it.
-#[derive(Drop)]
+#[derive(Clone, Copy)]
 struct Station {
     more: bool,
     post: Post,

@@ -5,14 +5,14 @@ ghost use Rattle.board_end.specs.Board.{board_of, board_left, unheard_step, fram
 use module::{Answer, Event, Session};
 use reader::{Heard, Reader};
 
-#[derive(Drop)]
+#[derive(Clone, Copy)]
 pub struct Board {
     pub reader: Reader,
     pub session: Session,
 }
 
 // The board after a byte or a time, the session's answer, and whether the reader has dropped a frame.
-#[derive(Drop)]
+#[derive(Clone, Copy)]
 pub struct BoardStep {
     pub board: Board,
     pub answer: Answer,

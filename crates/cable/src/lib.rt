@@ -8,21 +8,21 @@ ghost use Rattle.cable.specs.Cable.{Opens, Comes};
 use libc::{STDIN_FILENO, STDOUT_FILENO};
 
 // Where bytes come from and go to, and whether an empty read is silence: on a terminal it is 100 ms, elsewhere the end.
-#[derive(Drop)]
+#[derive(Clone, Copy)]
 pub struct Cable {
     pub input: i32,
     pub output: i32,
     pub terminal: bool,
 }
 
-#[derive(Drop)]
+#[derive(Clone, Copy)]
 pub enum Opened {
     Line(Cable),
     Failed,
 }
 
 // What a read brought: so many bytes at the front of the buffer, 100 ms without a byte, the end of the input, or an error.
-#[derive(Drop)]
+#[derive(Clone, Copy)]
 pub enum Came {
     Bytes(usize),
     Silence,

@@ -1,5 +1,5 @@
 // Whole files: read into a lent buffer, or written so that the name never stands for half of one.
-#[derive(Drop)]
+#[derive(Clone, Copy)]
 pub enum Got {
     // So many bytes stand at the front of the buffer.
     Count(usize),

@@ -11,14 +11,14 @@ use posts::Post;
 use ubf::{Block, Nth};
 
 // What the arguments ask for.
-#[derive(Drop)]
+#[derive(Clone, Copy)]
 struct Wish {
     seed: u64,
     rate: u64,
 }
 
 // How far a file is: blocks done, whether the flash was right whenever one was, the post, and the state of the noise.
-#[derive(Drop)]
+#[derive(Clone, Copy)]
 struct Walk {
     done: usize,
     right: bool,

@@ -16,7 +16,7 @@ use ubf_model::{
 };
 
 // An answer with every number of a block beside it; 0 where there is none.
-#[derive(Drop)]
+#[derive(Clone, Copy)]
 pub struct Answered {
     pub answer: u8,
     pub kind: u16,

@@ -5,7 +5,7 @@ use libc::{STDIN_FILENO, STDOUT_FILENO};
 use reader::{Heard, Reader, Stepped};
 
 // The reader and the count of frames, as they go from one piece of input to the next.
-#[derive(Drop)]
+#[derive(Clone, Copy)]
 struct Listening {
     reader: Reader,
     total: u64,

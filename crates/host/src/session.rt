@@ -14,13 +14,13 @@ use kinds::{Kind, Known};
 use refusals::Written;
 
 // The length of the image at the opening, and how far the session is.
-#[derive(Drop)]
+#[derive(Clone, Copy)]
 pub struct Session {
     pub image: usize,
     pub phase: Phase,
 }
 
-#[derive(Drop)]
+#[derive(Clone, Copy)]
 pub struct Stepped {
     pub session: Session,
     pub answer: Answer,

@@ -11,7 +11,7 @@ use spoken_host::{PLACES, show_answer, show_session};
 use stages::{Rate, Same, Start};
 
 // The session, how far the table is played, and what is lent.
-#[derive(Drop)]
+#[derive(Clone, Copy)]
 struct Playing {
     session: Session,
     at: usize,

@@ -6,7 +6,7 @@ use crate::text::follow;
 use host::{Answer, Event, Session};
 use reader::{Heard, Reader};
 
-#[derive(Drop)]
+#[derive(Clone, Copy)]
 pub struct HostEnd {
     pub reader: Reader,
     pub seen: usize,
@@ -14,7 +14,7 @@ pub struct HostEnd {
 }
 
 // The host's end after a byte or a time, the session's answer, and whether the reader has dropped a frame.
-#[derive(Drop)]
+#[derive(Clone, Copy)]
 pub struct HostStep {
     pub end: HostEnd,
     pub answer: Answer,

@@ -3,7 +3,7 @@ use crate::plan::Stage;
 
 // Pass the event over; enter a stage with its message; await a stage without one; resend; give up with the module's byte passed on;
 // give up for the number of pieces; done.
-#[derive(Drop)]
+#[derive(Clone, Copy)]
 pub enum Move {
     Stay,
     Enter(Stage),

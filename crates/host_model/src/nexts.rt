@@ -4,7 +4,7 @@ use crate::waits::Wait;
 
 // All stays; this is awaited from now on; a message is sent and this awaited; the session ends with an answer; or it ends with the
 // restart frame and the module's byte passed on.
-#[derive(Drop)]
+#[derive(Clone, Copy)]
 pub enum Next {
     Stays,
     Waits(Wait),

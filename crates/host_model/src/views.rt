@@ -2,14 +2,14 @@
 use crate::plan::Rate;
 
 // Packets accepted, and packets in all; none before the piece size is set.
-#[derive(Drop)]
+#[derive(Clone, Copy)]
 pub struct Progress {
     pub accepted: usize,
     pub total: usize,
 }
 
 // The rate that the line should have now.
-#[derive(Drop)]
+#[derive(Clone, Copy)]
 pub enum LineRate {
     AsItWas,
     At(Rate),

@@ -7,7 +7,7 @@ use host::{Answer, LineRate};
 use stages::rate_number;
 
 // The answer's number, the count to send, the byte passed on.
-#[derive(Drop)]
+#[derive(Clone, Copy)]
 pub struct Told {
     pub number: u8,
     pub count: usize,

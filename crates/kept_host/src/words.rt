@@ -7,7 +7,7 @@ use host::{Phase, Session, Wait};
 use stages::{Rate, Same, Stage, Start, rate_number};
 
 // What a stage puts into a record.
-#[derive(Drop)]
+#[derive(Clone, Copy)]
 pub(crate) struct Staged {
     pub(crate) stage: u32,
     pub(crate) rate: u32,

@@ -4,7 +4,7 @@
 ghost use Rattle.std.specs.Prelude.{◌≡◌};
 ghost use Rattle.kinds.specs.Kinds.{kind_of, number_of, base_of, token_of, fits_file, fits_flash};
 
-#[derive(Drop)]
+#[derive(Clone, Copy)]
 pub enum Kind {
     Navigation,
     Upgrade,
@@ -15,7 +15,7 @@ pub enum Kind {
 const IMAGE_MOST: usize = 262143;
 
 // The kind of a type number, if there is one.
-#[derive(Drop)]
+#[derive(Clone, Copy)]
 pub enum Known {
     Is(Kind),
     Unknown,

@@ -6,7 +6,7 @@ ghost use Rattle.std.specs.Prelude.{◌≡◌};
 ghost use Rattle.lanes.specs.Lanes.{way, lane_with, cleared_of, counted_of, lost_of, put_of, passed, Cleanly, clean_of};
 
 // The bytes under way stand in a lent buffer from at to end.
-#[derive(Drop)]
+#[derive(Clone, Copy)]
 pub struct Lane {
     pub at: usize,
     pub end: usize,
@@ -17,7 +17,7 @@ pub struct Lane {
 }
 
 // A lane, and the state of the noise.
-#[derive(Drop)]
+#[derive(Clone, Copy)]
 pub struct Laid {
     pub lane: Lane,
     pub noise: u64,

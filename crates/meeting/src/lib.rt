@@ -10,7 +10,7 @@ use stages::{Rate, Same, Start};
 
 // Packets counts those that the host knows to be accepted; forged counts those that the board has written with other bytes than the
 // image's, since noise can pass every check of a frame. Out goes to the board, back to the host.
-#[derive(Drop)]
+#[derive(Clone, Copy)]
 pub struct Log {
     pub out: Lane,
     pub back: Lane,
@@ -22,7 +22,7 @@ pub struct Log {
 }
 
 // What the ends have counted.
-#[derive(Drop)]
+#[derive(Clone, Copy)]
 pub struct Counts {
     pub resent: usize,
     pub board_dropped: usize,
@@ -30,14 +30,14 @@ pub struct Counts {
 }
 
 // What a load leaves.
-#[derive(Drop)]
+#[derive(Clone, Copy)]
 pub struct Met {
     pub post: Post,
     pub counts: Counts,
     pub log: Log,
 }
 
-#[derive(Drop)]
+#[derive(Clone, Copy)]
 struct Desk {
     caller: Caller,
     post: Post,
@@ -45,13 +45,13 @@ struct Desk {
 }
 
 // One end after its step, beside what has happened on the line.
-#[derive(Drop)]
+#[derive(Clone, Copy)]
 struct Called {
     caller: Caller,
     log: Log,
 }
 
-#[derive(Drop)]
+#[derive(Clone, Copy)]
 struct Posted {
     post: Post,
     log: Log,

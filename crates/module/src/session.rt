@@ -16,14 +16,14 @@ use module_model::{
 const SUM_ANEW: u32 = 0;
 
 // The length of the flash at the opening, the milliseconds since the last frame, and how far the session is.
-#[derive(Drop)]
+#[derive(Clone, Copy)]
 pub struct Session {
     pub flash: usize,
     pub idle: u32,
     pub phase: Phase,
 }
 
-#[derive(Drop)]
+#[derive(Clone, Copy)]
 pub struct Stepped {
     pub session: Session,
     pub answer: Answer,

@@ -9,7 +9,7 @@ use spoken_frames::words_only;
 use spoken_module::{PLACES, show_answer, show_opening, show_session};
 
 // The session, and how far the table is played.
-#[derive(Drop)]
+#[derive(Clone, Copy)]
 struct Playing {
     session: Session,
     at: usize,

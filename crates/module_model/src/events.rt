@@ -4,14 +4,14 @@
 pub const SMALLEST_REPLY: usize = 64;
 
 // A frame has arrived, with the first count bytes of the payload lent beside it; or milliseconds have passed.
-#[derive(Drop)]
+#[derive(Clone, Copy)]
 pub enum Event {
     Frame { command: u8, count: usize },
     Elapsed(u32),
 }
 
 // Nothing to send, so many bytes to send at the front of the reply buffer, or refused with a number.
-#[derive(Drop)]
+#[derive(Clone, Copy)]
 pub enum Answer {
     Nothing,
     Sent(usize),

@@ -19,7 +19,7 @@ pub const STATE_WHOLE: u8 = 0x00;
 pub const STATE_SHORT: u8 = 0x01;
 
 // What a reply says, by command; Last is the acknowledgement of the last packet with the notice behind it.
-#[derive(Drop)]
+#[derive(Clone, Copy)]
 pub enum Say {
     Nothing,
     Rate { rate: u8, ack: u8 },
@@ -30,13 +30,13 @@ pub enum Say {
 }
 
 // Where the data of an accepted packet go.
-#[derive(Drop)]
+#[derive(Clone, Copy)]
 pub enum Put {
     Nowhere,
     At(usize),
 }
 
-#[derive(Drop)]
+#[derive(Clone, Copy)]
 pub struct Decision {
     pub phase: Phase,
     pub say: Say,
@@ -44,7 +44,7 @@ pub struct Decision {
 }
 
 // The numbers of a packet; its data stand behind them in the payload.
-#[derive(Drop)]
+#[derive(Clone, Copy)]
 pub struct Numbers {
     pub total: usize,
     pub number: usize,

@@ -6,14 +6,14 @@ use crate::post::more;
 use host::{Answer, Session};
 use host_end::{HostEnd, HostStep};
 
-#[derive(Drop)]
+#[derive(Clone, Copy)]
 pub struct Caller {
     pub end: HostEnd,
     pub resent: usize,
     pub dropped: usize,
 }
 
-#[derive(Drop)]
+#[derive(Clone, Copy)]
 pub struct CallerStep {
     pub caller: Caller,
     pub answer: Answer,

@@ -6,7 +6,7 @@ ghost use Rattle.posts.specs.View.{ended_with, begun_of, ending_of};
 use host::Answer;
 
 // Number 0 is done; with 21 and 22 passed is the module's byte. Fields are plain numbers, so that a loop can carry them.
-#[derive(Drop)]
+#[derive(Clone, Copy)]
 pub struct Ending {
     pub over: bool,
     pub number: u8,

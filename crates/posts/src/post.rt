@@ -17,14 +17,14 @@ use board_end::Board;
 use module::{Answer, Session};
 
 // Seen is how much of the start text has been heard; dropped counts the frames that the reader has dropped.
-#[derive(Drop)]
+#[derive(Clone, Copy)]
 pub struct Post {
     pub board: Board,
     pub seen: usize,
     pub dropped: usize,
 }
 
-#[derive(Drop)]
+#[derive(Clone, Copy)]
 pub struct PostStep {
     pub post: Post,
     pub answer: Answer,

@@ -8,7 +8,7 @@ use module::{Phase, Pieces, Transfer};
 
 // Stand is 0 without an open session, 1 when ready, 2 with parameters accepted, 3 while loading, 4 when done. The range of the
 // transfer begins at base, and written bytes of it are in the flash. The kind says nothing where there is no transfer.
-#[derive(Drop)]
+#[derive(Clone, Copy)]
 pub struct View {
     pub stand: u8,
     pub kind: Kind,

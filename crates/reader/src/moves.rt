@@ -4,7 +4,7 @@ ghost use Rattle.reader.specs.Moves.{content_move, follow_move, tail_move, insid
 
 // The byte is passed over; a frame opens; an escape is read; a content byte is put at the count; the frame is dropped; the tail ends
 // the content, which is then judged.
-#[derive(Drop)]
+#[derive(Clone, Copy)]
 pub(crate) enum Move {
     Pass,
     Begin,

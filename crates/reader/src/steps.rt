@@ -7,7 +7,7 @@ use crate::moves::{Move, move_of};
 use wire::{CONTENT_MOST, Verdict};
 
 // The content so far stands in the first count bytes of the store.
-#[derive(Drop)]
+#[derive(Clone, Copy)]
 pub struct Reader {
     pub store: [u8; CONTENT_MOST],
     pub count: usize,
@@ -16,14 +16,14 @@ pub struct Reader {
 }
 
 // What a byte brought. A frame's payload is the next count bytes of the store behind Length, device and command.
-#[derive(Drop)]
+#[derive(Clone, Copy)]
 pub enum Heard {
     Nothing,
     Frame { command: u8, count: usize },
     Dropped,
 }
 
-#[derive(Drop)]
+#[derive(Clone, Copy)]
 pub struct Stepped {
     pub reader: Reader,
     pub heard: Heard,

@@ -35,7 +35,7 @@ pub const MODULE_REFUSED: u8 = 21;
 pub const BAD_NOTICE: u8 = 22;
 
 // How many bytes were written at the front of an output, or the refusal number.
-#[derive(Drop)]
+#[derive(Clone, Copy)]
 pub enum Written {
     Count(usize),
     Refused(u8),

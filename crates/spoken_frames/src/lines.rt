@@ -3,7 +3,7 @@ use crate::words::{Side, frame};
 use reader::{Heard, Reader};
 
 // The reader, and how many bytes stood in frames so far.
-#[derive(Drop)]
+#[derive(Clone, Copy)]
 struct Reading {
     reader: Reader,
     from: usize,

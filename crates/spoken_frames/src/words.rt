@@ -1,7 +1,7 @@
 // Frames in words.
 
 // Who speaks: the module is heard, the host sends.
-#[derive(Drop)]
+#[derive(Clone, Copy)]
 pub enum Side {
     Heard,
     Sent,

@@ -33,7 +33,7 @@ pub const NAME_SIZE: usize = 128;
 pub const DATE_SIZE: usize = 32;
 
 // The fields of a block. Its texts and its image stay in the caller's file.
-#[derive(Drop)]
+#[derive(Clone, Copy)]
 pub struct Block {
     pub kind: Kind,
     pub extent: u32,
@@ -42,7 +42,7 @@ pub struct Block {
 }
 
 // A block is either its fields or one refusal number.
-#[derive(Drop)]
+#[derive(Clone, Copy)]
 pub enum Found {
     Whole(Block),
     Refused(u8),

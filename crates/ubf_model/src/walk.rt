@@ -3,7 +3,7 @@ use crate::block::Block;
 
 // The n-th block, counted from 0, and its place; or how many blocks the file has, where they are too few; or the first faulty
 // block's refusal number and place, and how many good blocks stand before it.
-#[derive(Drop)]
+#[derive(Clone, Copy)]
 pub enum Nth {
     Found {
         block: Block,

@@ -28,7 +28,7 @@ pub(crate) fn content_of(command: u8, payload: &[u8]) -> [u8; CONTENT_MOST]
 }
 
 // What content is found to be: that of a frame for our device, or of none.
-#[derive(Drop)]
+#[derive(Clone, Copy)]
 pub enum Verdict {
     Good,
     Bad,
