@@ -3,7 +3,7 @@ ghost use Rattle.std.specs.Prelude.{◌≡◌};
 ghost use Rattle.commands.specs.Commands.{restart_frame};
 ghost use Rattle.commands.specs.Commands.{start_text};
 ghost use Rattle.host_model.specs.Messages.{goes_out, message_of, sent_of};
-ghost use Rattle.host_model.specs.StagesLaws.{Small};
+ghost use Rattle.host_model.specs.Small.{Small};
 
 use host_model::{Plan, Stage};
 use rates::rate_number;

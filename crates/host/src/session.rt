@@ -1,7 +1,7 @@
 // The session: opened with what to load, stepped by value, handed back beside the answer.
 ghost use Rattle.std.specs.Prelude.{◌≡◌};
-ghost use Rattle.host_model.specs.NextsLaws.{SmallNext};
-ghost use Rattle.host_model.specs.StagesLaws.{Small};
+ghost use Rattle.host_model.specs.SmallNexts.{SmallNext};
+ghost use Rattle.host_model.specs.Small.{Small};
 ghost use Rattle.host_model.specs.Views.{progress_of, ended_at_rate};
 ghost use Rattle.host_model.specs.declared.nexts.Next.TheVariants.{Sends, Fails};
 ghost use Rattle.host_model.specs.declared.waits.Phase.TheVariants.{EndedAt, Waiting};

@@ -1,4 +1,3 @@
 -- A text on a line, and a host's end fed bytes.
 pub mod Text
-pub mod TextLaws
 pub mod HostEnd

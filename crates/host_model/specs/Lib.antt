@@ -8,9 +8,5 @@ pub mod Waits
 pub mod Nexts
 pub mod Views
 pub mod Events
-pub mod StagesLaws
-pub mod AnswersLaws
-pub mod Moves
-pub mod MessagesLaws
-pub mod WaitsLaws
-pub mod NextsLaws
+pub mod Small
+pub mod SmallNexts

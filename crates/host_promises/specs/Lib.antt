@@ -2,9 +2,3 @@
 -- arise are those that are reached (Arises, Reach), a load that is answered well goes to its end (Forward, Load), document 01's bench.
 pub mod Runs
 pub mod Promises
-pub mod Turns
-pub mod Bench
-pub mod Arises
-pub mod Forward
-pub mod Load
-pub mod Reach

@@ -2,6 +2,3 @@
 -- each call as what the line feeds the ends (Calls); wrong calls (Wrong).
 pub mod Called
 pub mod Promises
-pub mod Done
-pub mod Calls
-pub mod Wrong

@@ -3,6 +3,3 @@
 pub mod Record
 pub mod Kept
 pub mod Promises
-pub mod CallLaws
-pub mod KeptLaws
-pub mod RunLaws

@@ -7,12 +7,3 @@ pub mod Wired
 pub mod Lossless
 pub mod Feeds
 pub mod Promises
-pub mod Filled
-pub mod Stand
-pub mod TransferLaws
-pub mod BoardMoves
-pub mod HostMoves
-pub mod File
-pub mod Load
-pub mod Noise
-pub mod Wires

@@ -4,7 +4,7 @@ use Rattle.std.proofs.lemmas.Bool.{false≢true}
 use Rattle.std.proofs.Common.{sym, ◌∙◌}
 use Rattle.octets.proofs.Choice.{both, one_holds, cond_yes}
 use Rattle.module_model.specs.Phases.{alive, held, is_closed, closed_arises, written_in}
-use Rattle.module_model.specs.PhasesLaws.{Alive, alive_facts, facts_alive}
+use Rattle.module_model.proofs.PhasesLaws.{Alive, alive_facts, facts_alive}
 use Rattle.module.specs.Session.{takes, arises, written_of}
 use Rattle.module.specs.declared.session.Session.{Session}
 

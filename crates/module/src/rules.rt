@@ -6,7 +6,7 @@ ghost use Rattle.module_model.specs.Rules.{unmoved, rate_ack, rate_decision, par
 ghost use Rattle.module_model.specs.Rules.{numbers_in, well_formed, not_taken, cuts_into, place_of, is_packet, is_repeat, phase_at};
 ghost use Rattle.module_model.specs.Rules.{state_of, say_of, acknowledge_of, taken, repeat_decision, first_decision, loading_decision};
 ghost use Rattle.module_model.specs.Rules.{done_decision, phase_decision, packet_decision, decide_of, put_of};
-ghost use Rattle.module_model.specs.PhasesLaws.{Bounded, BoundedPhase};
+ghost use Rattle.module_model.specs.Bounds.{Bounded, BoundedPhase};
 
 use commands::LARGEST_PACKET;
 use kinds::{Kind, Known};

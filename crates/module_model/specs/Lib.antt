@@ -3,10 +3,4 @@
 pub mod Phases
 pub mod Rules
 pub mod Answers
-pub mod PhasesLaws
-pub mod RulesLaws
-pub mod Outcomes
-pub mod Leads
-pub mod Replies
-pub mod Due
-pub mod Laid
+pub mod Bounds

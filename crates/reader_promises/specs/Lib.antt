@@ -5,12 +5,3 @@ pub mod Runs
 pub mod Table
 pub mod Promises
 pub mod Seen
-pub mod SeenLaws
-pub mod Feed
-pub mod Resync
-pub mod Dropped
-pub mod Bench
-pub mod Stretches
-pub mod RoundTrip
-pub mod Wrong
-pub mod WrongWriter

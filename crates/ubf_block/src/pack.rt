@@ -11,7 +11,7 @@ ghost use Rattle.ubf_model.specs.Pack.{
   fits,
   pack_of,
 };
-ghost use Rattle.ubf_model.specs.PackLaws.{HeaderRoom};
+ghost use Rattle.ubf_model.specs.Room.{HeaderRoom};
 
 use crate::block::{texts_fit, wide};
 use kinds::Known;

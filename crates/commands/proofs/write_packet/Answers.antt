@@ -14,21 +14,6 @@ use Rattle.commands.specs.Commands.{largest_packet, packet_command, packet_frame
 use Rattle.commands.specs.CommandsLaws.{length_packet, packet_built}
 use Rattle.commands.proofs.write_packet.Goals as goal
 
-at_most : (c : tie.Else1) → length c.before.piece.result.now ≤ largest_packet
-at_most c = omega arith
-
-room : (c : tie.After-copy) → length c.before.before.before.before.before.before.before.before.before.before.before.before.before.piece.result.now + 6 ≤ length c.copy.new.1.0
-room c =
-    omega (
-      arith,
-      at_most c.before.before.before.before.before.before.before.before.before.before.before.before,
-      c.copy.auto.1.0,
-      c.before.before.before.put-two3.auto.0,
-      c.before.before.before.before.before.before.put-two2.auto.0,
-      c.before.before.before.before.before.before.before.before.before.put_two.auto.0,
-      length-replicate {A = ℕ} longest_payload 0,
-    )
-
 pub returns-then-n-gt-LARGEST_PACKET : goal.returns-then-n-gt-LARGEST_PACKET
 returns-then-n-gt-LARGEST_PACKET c =
     let a = c.args in
@@ -36,3 +21,30 @@ returns-then-n-gt-LARGEST_PACKET c =
     sym
     (write_too_long (packet_frame a.image.now a.size a.number) a.out.now
     (omega (arith, long, length_packet a.image.now a.size a.number)))
+
+pub slice_bounds-write-end : goal.slice_bounds-write-end
+slice_bounds-write-end c = sym (length-take-le _ _ (
+    omega (
+      arith,
+      c.copy.auto.d,
+      c.put_two-3.auto.d,
+      c.put_two-2.auto.d,
+      c.put_two.auto.d,
+      length-replicate {A = ℕ} longest_payload 0,
+    )
+    ))
+
+pub returns : goal.returns
+returns c =
+    let a = c.args in
+    let zeros : List ℕ = replicate longest_payload 0 in
+    let piece = c.piece-piece.ensures in
+    let total = c.put_two.ensures ∙ ap (λ x. laid zeros 0 (spelled 2 (x % 65536))) c.count.ensures in
+    let number = c.put_two-2.ensures ∙ ap (λ l. laid l 2 (spelled 2 (a.number % 65536))) total in
+    let size = c.put_two-3.ensures ∙ ap₂ (λ l p. laid l 4 (spelled 2 (length p % 65536))) number piece in
+    let whole = c.copy.ensures ∙ ap₂ (λ l p. laid l 6 p) size piece in
+    let short : length (piece_of a.image.now a.size a.number) ≤ largest_packet = (let most : length c.piece-piece.result.now ≤ largest_packet = omega arith in rw piece at most) in
+    let built =
+    ap₂ (λ p l. take (length p + 6) l) piece whole
+    ∙ packet_built a.image.now a.size a.number zeros (length-replicate {A = ℕ} longest_payload 0) short in
+    c.write.ensures ∙ ap (λ p. write_of (frame packet_command p) a.out.now) built

@@ -6,7 +6,7 @@ use Rattle.wire.specs.Frame.{longest_content}
 use Rattle.octets.specs.Octets.{laid}
 use Rattle.octets.proofs.Choice.{cond_yes}
 use Rattle.kept_reader.specs.Kept.{store_place, bytes_of, reader_kept}
-use Rattle.kept_reader.specs.KeptLaws.{words_and_store, kept_over}
+use Rattle.kept_reader.proofs.KeptLaws.{words_and_store, kept_over}
 use borrow.Author.Rules.{rules}
 use Rattle.kept_reader.proofs.keep.Statement.{statement}
 use Rattle.kept_reader.proofs.keep.Tie as tie

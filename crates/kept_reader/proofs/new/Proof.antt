@@ -3,7 +3,7 @@ use borrow.Author.Tests.{lt-ltb, le-ltb}
 use mathlib.Core.Path.{sym}
 use Rattle.octets.proofs.Choice.{cond_yes, cond_no}
 use Rattle.kept_reader.specs.Kept.{kept_new}
-use Rattle.kept_reader.specs.KeptLaws.{kept_over}
+use Rattle.kept_reader.proofs.KeptLaws.{kept_over}
 use borrow.Author.Rules.{rules}
 use Rattle.kept_reader.proofs.new.Statement.{statement}
 use Rattle.kept_reader.proofs.new.Tie as tie

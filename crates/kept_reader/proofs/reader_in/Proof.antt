@@ -2,7 +2,7 @@
 use mathlib.Core.Path.{sym, ◌∙◌}
 use Rattle.octets.proofs.Choice.{cond_yes, cond_no, test_passed, test_failed}
 use Rattle.kept_reader.specs.Kept.{reader_in}
-use Rattle.kept_reader.specs.KeptLaws.{stands_room}
+use Rattle.kept_reader.proofs.KeptLaws.{stands_room}
 use borrow.Author.Rules.{rules}
 use Rattle.kept_reader.proofs.reader_in.Statement.{statement}
 use Rattle.kept_reader.proofs.reader_in.Tie as tie

@@ -3,7 +3,7 @@ use mathlib.Core.Path.{ap, ◌∙◌}
 use lib.ListN.{replicate}
 use Rattle.wire.specs.Frame.{longest_content}
 use Rattle.octets.specs.Octets.{laid}
-use Rattle.kept_reader.specs.KeptLaws.{store_copied}
+use Rattle.kept_reader.proofs.KeptLaws.{store_copied}
 use borrow.Author.Rules.{rules}
 use Rattle.kept_reader.proofs.store_in.Statement.{statement}
 use Rattle.kept_reader.proofs.store_in.Tie as tie

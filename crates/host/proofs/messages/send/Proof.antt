@@ -9,8 +9,8 @@ use Rattle.commands.specs.Commands.{rate_frame, parameters_frame, packet_frame}
 use Rattle.commands.specs.CommandsLaws.{length_parameters}
 use Rattle.host_model.specs.Stages.{number_of_rate}
 use Rattle.host_model.specs.Messages.{message_of, sent_of}
-use Rattle.host_model.specs.MessagesLaws.{sent_frame, sent_packet}
-use Rattle.host_model.specs.StagesLaws.{small_same}
+use Rattle.host_model.proofs.MessagesLaws.{sent_frame, sent_packet}
+use Rattle.host_model.proofs.StagesLaws.{small_same}
 use Rattle.host.proofs.messages.send.Statement.{statement}
 use Rattle.host.proofs.messages.send.Tie as tie
 

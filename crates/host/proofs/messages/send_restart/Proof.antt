@@ -3,7 +3,7 @@ use borrow.Author.Rules.{rules}
 use mathlib.Core.Path.{◌∙◌}
 use native.Mathlib.Omega.{arith}
 use Rattle.commands.specs.Commands.{restart_frame}
-use Rattle.host_model.specs.MessagesLaws.{sent_frame}
+use Rattle.host_model.proofs.MessagesLaws.{sent_frame}
 use Rattle.host.proofs.messages.send_restart.Statement.{statement}
 use Rattle.host.proofs.messages.send_restart.Tie as tie
 

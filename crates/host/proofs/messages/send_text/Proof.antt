@@ -2,7 +2,7 @@
 use borrow.Author.Rules.{rules}
 use native.Mathlib.Omega.{arith}
 use Rattle.commands.specs.Commands.{start_text}
-use Rattle.host_model.specs.MessagesLaws.{sent_none, sent_laid}
+use Rattle.host_model.proofs.MessagesLaws.{sent_none, sent_laid}
 use Rattle.host.proofs.messages.send_text.Statement.{statement}
 use Rattle.host.proofs.messages.send_text.Tie as tie
 

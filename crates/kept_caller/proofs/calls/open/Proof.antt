@@ -3,7 +3,7 @@ use mathlib.Core.Path.{sym}
 use borrow.Author.Tests.{lt-ltb, le-ltb}
 use Rattle.octets.proofs.Choice.{cond_yes, cond_no}
 use Rattle.kept_caller.specs.Kept.{kept_opening}
-use Rattle.kept_caller.specs.KeptLaws.{opening_by_law}
+use Rattle.kept_caller.proofs.KeptLaws.{opening_by_law}
 use borrow.Author.Rules.{rules}
 use Rattle.kept_caller.proofs.calls.open.Statement.{statement}
 use Rattle.kept_caller.proofs.calls.open.Tie as tie

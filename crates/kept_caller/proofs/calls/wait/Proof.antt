@@ -5,7 +5,7 @@ use Rattle.octets.proofs.Choice.{cond_yes, cond_no}
 use Rattle.posts.specs.Caller.{caller_waits}
 use Rattle.posts.specs.declared.caller.Caller.{Caller}
 use Rattle.kept_caller.specs.Kept.{kept_waits}
-use Rattle.kept_caller.specs.KeptLaws.{call_by}
+use Rattle.kept_caller.proofs.KeptLaws.{call_by}
 use borrow.Author.Rules.{rules}
 use Rattle.kept_caller.proofs.calls.wait.Statement.{statement}
 use Rattle.kept_caller.proofs.calls.wait.Tie as tie

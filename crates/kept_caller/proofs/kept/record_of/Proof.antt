@@ -1,7 +1,7 @@
 -- `record_of`: in bytes just as long the record is all.
 use mathlib.Core.Path.{◌∙◌}
 use Rattle.flat.specs.Found.{recorded_alone}
-use Rattle.kept_host.specs.KeptLaws.{words_count}
+use Rattle.kept_host.proofs.KeptLaws.{words_count}
 use borrow.Author.Rules.{rules}
 use Rattle.kept_caller.proofs.kept.record_of.Statement.{statement}
 use Rattle.kept_caller.proofs.kept.record_of.Tie as tie

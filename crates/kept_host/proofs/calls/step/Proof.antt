@@ -1,6 +1,6 @@
 -- `step`: read, stepped, kept, told.
 use borrow.Author.Rules.{rules}
-use Rattle.kept_host.specs.KeptLaws.{step_kept}
+use Rattle.kept_host.proofs.KeptLaws.{step_kept}
 use Rattle.kept_host.proofs.calls.step.Statement.{statement}
 use Rattle.kept_host.proofs.calls.step.Tie as tie
 

@@ -1,6 +1,6 @@
 -- `kind_phase`: by the stage.
 use borrow.Author.Rules.{rules}
-use Rattle.kept_host.specs.KeptLaws.{phase_ended, phase_waits}
+use Rattle.kept_host.proofs.KeptLaws.{phase_ended, phase_waits}
 use Rattle.kept_host.proofs.fields.kind_phase.Statement.{statement}
 use Rattle.kept_host.proofs.fields.kind_phase.Tie as tie
 

@@ -5,7 +5,7 @@ use mathlib.Core.Path.{refl, sym, ap, ◌∙◌}
 use Rattle.octets.proofs.Choice.{test_passed, test_failed}
 use Rattle.host.specs.Session.{arises}
 use Rattle.kept_host.specs.Kept.{fields_in, stands}
-use Rattle.kept_host.specs.KeptLaws.{compared}
+use Rattle.kept_host.proofs.KeptLaws.{compared}
 use Rattle.kept_host.proofs.kept.stands.Statement.{statement}
 use Rattle.kept_host.proofs.kept.stands.Tie as tie
 

@@ -4,7 +4,7 @@ use mathlib.Core.Path.{sym, ◌∙◌}
 use borrow.Author.Tests.{lt-ltb, le-ltb}
 use Rattle.octets.proofs.Choice.{cond_yes, cond_no}
 use Rattle.kept_host.specs.Kept.{kept_opening}
-use Rattle.kept_host.specs.KeptLaws.{open_kept}
+use Rattle.kept_host.proofs.KeptLaws.{open_kept}
 use Rattle.kept_host.proofs.opening.open.Statement.{statement}
 use Rattle.kept_host.proofs.opening.open.Tie as tie
 

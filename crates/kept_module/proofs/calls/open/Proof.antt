@@ -3,7 +3,7 @@ use mathlib.Core.Path.{sym}
 use borrow.Author.Tests.{lt-ltb}
 use Rattle.octets.proofs.Choice.{cond_yes}
 use Rattle.kept_module.specs.Kept.{kept_opening}
-use Rattle.kept_module.specs.CallLaws.{opening_by_law}
+use Rattle.kept_module.proofs.CallLaws.{opening_by_law}
 use borrow.Author.Rules.{rules}
 use Rattle.kept_module.proofs.calls.open.Statement.{statement}
 use Rattle.kept_module.proofs.calls.open.Tie as tie

@@ -1,5 +1,5 @@
 -- `session_in`: read where the record stands, else closed.
-use Rattle.kept_module.specs.CallLaws.{session_by_law}
+use Rattle.kept_module.proofs.CallLaws.{session_by_law}
 use borrow.Author.Rules.{rules}
 use Rattle.kept_module.proofs.calls.session_in.Statement.{statement}
 use Rattle.kept_module.proofs.calls.session_in.Tie as tie

@@ -1,6 +1,6 @@
 -- `stands`: the record alone, compared with as many bytes.
 use mathlib.Core.Path.{refl, ◌∙◌}
-use Rattle.kept_module.specs.CallLaws.{stands_by}
+use Rattle.kept_module.proofs.CallLaws.{stands_by}
 use borrow.Author.Rules.{rules}
 use Rattle.kept_module.proofs.writing.stands.Statement.{statement}
 use Rattle.kept_module.proofs.writing.stands.Tie as tie

@@ -5,7 +5,7 @@ use Rattle.octets.proofs.Choice.{cond_yes, cond_no}
 use Rattle.posts.specs.Post.{post_hears}
 use Rattle.posts.specs.declared.post.Post.{Post}
 use Rattle.kept_post.specs.Kept.{kept_hears}
-use Rattle.kept_post.specs.KeptLaws.{call_by}
+use Rattle.kept_post.proofs.KeptLaws.{call_by}
 use borrow.Author.Rules.{rules}
 use Rattle.kept_post.proofs.calls.hear.Statement.{statement}
 use Rattle.kept_post.proofs.calls.hear.Tie as tie

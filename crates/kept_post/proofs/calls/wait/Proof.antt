@@ -5,7 +5,7 @@ use Rattle.octets.proofs.Choice.{cond_yes, cond_no}
 use Rattle.posts.specs.Post.{post_waits}
 use Rattle.posts.specs.declared.post.Post.{Post}
 use Rattle.kept_post.specs.Kept.{kept_waits}
-use Rattle.kept_post.specs.KeptLaws.{call_by}
+use Rattle.kept_post.proofs.KeptLaws.{call_by}
 use borrow.Author.Rules.{rules}
 use Rattle.kept_post.proofs.calls.wait.Statement.{statement}
 use Rattle.kept_post.proofs.calls.wait.Tie as tie

@@ -1,7 +1,7 @@
 -- `module::cuts_into`: Total 1 is tested by the length, any other by the count.
 use mathlib.Core.Path.{sym, ap, ◌∙◌}
 use lib.Dec.{eqb}
-use Rattle.module_model.specs.RulesLaws.{cuts_one, cuts_more}
+use Rattle.module_model.proofs.RulesLaws.{cuts_one, cuts_more}
 use borrow.Author.Rules.{rules}
 use Rattle.module.proofs.rules.cuts_into.Statement.{statement}
 use Rattle.module.proofs.rules.cuts_into.Tie as tie

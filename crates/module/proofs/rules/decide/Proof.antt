@@ -1,7 +1,7 @@
 -- `module::decide`: each arm is one case of the definition.
 use mathlib.Core.Path.{sym, ap, ◌∙◌}
 use Rattle.module_model.specs.Rules.{decide_of}
-use Rattle.module_model.specs.RulesLaws.{decide_rate, decide_parameters, decide_packet, decide_restart, decide_other}
+use Rattle.module_model.proofs.RulesLaws.{decide_rate, decide_parameters, decide_packet, decide_restart, decide_other}
 use borrow.Author.Rules.{rules}
 use Rattle.module.proofs.rules.decide.Statement.{statement}
 use Rattle.module.proofs.rules.decide.Tie as tie

@@ -1,7 +1,7 @@
 -- `module::first`: the number is tested, then the size.
 use mathlib.Core.Path.{sym, ◌∙◌}
 use Rattle.octets.proofs.Choice.{test_passed, test_failed}
-use Rattle.module_model.specs.RulesLaws.{first_taken, first_number, first_refused}
+use Rattle.module_model.proofs.RulesLaws.{first_taken, first_number, first_refused}
 use borrow.Author.Rules.{rules}
 use Rattle.module.proofs.rules.first.Statement.{statement}
 use Rattle.module.proofs.rules.first.Tie as tie

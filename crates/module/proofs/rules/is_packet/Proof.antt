@@ -1,7 +1,7 @@
 -- `module::is_packet`: each test is one fact of the packet.
 use mathlib.Core.Path.{sym, ap, ◌∙◌}
 use lib.Dec.{eqb}
-use Rattle.module_model.specs.RulesLaws.{packet_no, packet_size}
+use Rattle.module_model.proofs.RulesLaws.{packet_no, packet_size}
 use borrow.Author.Rules.{rules}
 use Rattle.module.proofs.rules.is_packet.Statement.{statement}
 use Rattle.module.proofs.rules.is_packet.Tie as tie

@@ -2,7 +2,7 @@
 use mathlib.Core.Path.{sym, ap, ◌∙◌}
 use Rattle.octets.proofs.Choice.{test_passed, test_failed}
 use Rattle.octets.specs.Octets.{part_of, same_bytes}
-use Rattle.module_model.specs.RulesLaws.{repeat_other, repeat_bytes}
+use Rattle.module_model.proofs.RulesLaws.{repeat_other, repeat_bytes}
 use borrow.Author.Rules.{rules}
 use Rattle.module.proofs.rules.is_repeat.Statement.{statement}
 use Rattle.module.proofs.rules.is_repeat.Tie as tie

@@ -1,7 +1,7 @@
 -- `module::last`: a packet is looked at as a repeat of the last.
 use mathlib.Core.Path.{sym, ap, ◌∙◌}
 use Rattle.module_model.specs.Rules.{repeat_decision}
-use Rattle.module_model.specs.RulesLaws.{done_repeat}
+use Rattle.module_model.proofs.RulesLaws.{done_repeat}
 use Rattle.module_model.specs.declared.phases.Phase.TheVariants.{Done}
 use borrow.Author.Rules.{rules}
 use Rattle.module.proofs.rules.last.Statement.{statement}

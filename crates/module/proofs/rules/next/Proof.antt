@@ -1,6 +1,6 @@
 -- `module::next`: the next packet is taken, any other looked at as a repeat.
 use mathlib.Core.Path.{sym, ◌∙◌}
-use Rattle.module_model.specs.RulesLaws.{next_taken, next_other}
+use Rattle.module_model.proofs.RulesLaws.{next_taken, next_other}
 use borrow.Author.Rules.{rules}
 use Rattle.module.proofs.rules.next.Statement.{statement}
 use Rattle.module.proofs.rules.next.Tie as tie

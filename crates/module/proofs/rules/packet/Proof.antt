@@ -3,7 +3,7 @@ use Prim.Native.Nat.{ℕ}
 use mathlib.Core.Path.{◌≡◌, sym, ap, ap₂, ◌∙◌}
 use Rattle.octets.proofs.Choice.{test_passed, test_failed}
 use Rattle.module_model.specs.Rules.{numbers_in, well_formed, phase_decision}
-use Rattle.module_model.specs.RulesLaws.{formed, packet_formed, packet_unformed}
+use Rattle.module_model.proofs.RulesLaws.{formed, packet_formed, packet_unformed}
 use borrow.Author.Rules.{rules}
 use Rattle.module.proofs.rules.packet.Statement.{statement}
 use Rattle.module.proofs.rules.packet.Tie as tie

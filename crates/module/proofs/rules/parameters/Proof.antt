@@ -2,7 +2,7 @@
 use mathlib.Core.Path.{sym, ap, ◌∙◌}
 use Rattle.kinds.specs.Kinds.{kind_of}
 use Rattle.module_model.specs.Rules.{known_decision}
-use Rattle.module_model.specs.RulesLaws.{parameters_ten, parameters_other}
+use Rattle.module_model.proofs.RulesLaws.{parameters_ten, parameters_other}
 use borrow.Author.Rules.{rules}
 use Rattle.module.proofs.rules.parameters.Statement.{statement}
 use Rattle.module.proofs.rules.parameters.Tie as tie

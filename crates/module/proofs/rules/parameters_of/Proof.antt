@@ -5,7 +5,7 @@ use Rattle.octets.specs.Octets.{number_at}
 use Rattle.kinds.specs.Kinds.{token_of, fits_flash}
 use Rattle.commands.specs.Commands.{accepted}
 use Rattle.module_model.specs.Rules.{unmoved}
-use Rattle.module_model.specs.RulesLaws.{kind_begins, kind_address, kind_length}
+use Rattle.module_model.proofs.RulesLaws.{kind_begins, kind_address, kind_length}
 use Rattle.module_model.specs.declared.phases.Phase.TheVariants.{Begun}
 use Rattle.module_model.specs.declared.rules.Say.TheVariants.{Parameters}
 use borrow.Author.Rules.{rules}

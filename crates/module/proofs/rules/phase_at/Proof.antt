@@ -1,6 +1,6 @@
 -- `module::phase_at`: the number is compared with Total.
 use mathlib.Core.Path.{sym, ◌∙◌}
-use Rattle.module_model.specs.RulesLaws.{phase_last, phase_before}
+use Rattle.module_model.proofs.RulesLaws.{phase_last, phase_before}
 use borrow.Author.Rules.{rules}
 use Rattle.module.proofs.rules.phase_at.Statement.{statement}
 use Rattle.module.proofs.rules.phase_at.Tie as tie

@@ -3,7 +3,7 @@ use Prim.Native.Nat.{◌*◌, ◌≤◌}
 use native.Mathlib.Omega.{arith}
 use Rattle.commands.specs.Commands.{largest_packet, largest_total}
 use Rattle.pieces.specs.Pieces.{offset_of}
-use Rattle.module_model.specs.RulesLaws.{place_small}
+use Rattle.module_model.proofs.RulesLaws.{place_small}
 use borrow.Author.Rules.{rules}
 use Rattle.module.proofs.rules.place_of.Statement.{statement}
 use Rattle.module.proofs.rules.place_of.Tie as tie

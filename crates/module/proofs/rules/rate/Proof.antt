@@ -1,7 +1,7 @@
 -- `module::rate`: the length of the payload decides, then the rate.
 use mathlib.Core.Path.{sym, ap, ap₂, ◌∙◌}
 use Rattle.module_model.specs.Rules.{unmoved, rate_ack}
-use Rattle.module_model.specs.RulesLaws.{rate_one, rate_other}
+use Rattle.module_model.proofs.RulesLaws.{rate_one, rate_other}
 use Rattle.module_model.specs.declared.rules.Say.TheVariants.{Rate}
 use borrow.Author.Rules.{rules}
 use Rattle.module.proofs.rules.rate.Statement.{statement}

@@ -1,7 +1,7 @@
 -- `module::rate_ack`: each test is a bound of the five rates.
 use native.Mathlib.Omega.{arith}
 use mathlib.Core.Path.{sym}
-use Rattle.module_model.specs.RulesLaws.{rate_yes, rate_no}
+use Rattle.module_model.proofs.RulesLaws.{rate_yes, rate_no}
 use Rattle.module.proofs.rules.rate_ack.Statement.{statement}
 use Rattle.module.proofs.rules.rate_ack.Tie as tie
 

@@ -1,6 +1,6 @@
 -- `module::repeat`: what is a repeat is acknowledged.
 use mathlib.Core.Path.{sym, ◌∙◌}
-use Rattle.module_model.specs.RulesLaws.{repeat_taken, repeat_refused}
+use Rattle.module_model.proofs.RulesLaws.{repeat_taken, repeat_refused}
 use borrow.Author.Rules.{rules}
 use Rattle.module.proofs.rules.repeat.Statement.{statement}
 use Rattle.module.proofs.rules.repeat.Tie as tie

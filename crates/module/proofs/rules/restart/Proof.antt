@@ -1,6 +1,6 @@
 -- `module::restart`: the length of the payload decides.
 use mathlib.Core.Path.{sym, ◌∙◌}
-use Rattle.module_model.specs.RulesLaws.{restart_none, restart_other}
+use Rattle.module_model.proofs.RulesLaws.{restart_none, restart_other}
 use borrow.Author.Rules.{rules}
 use Rattle.module.proofs.rules.restart.Statement.{statement}
 use Rattle.module.proofs.rules.restart.Tie as tie

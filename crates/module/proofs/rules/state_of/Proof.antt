@@ -1,6 +1,6 @@
 -- `module::state_of`: the count written is compared with the length.
 use mathlib.Core.Path.{sym}
-use Rattle.module_model.specs.RulesLaws.{state_whole_law, state_other}
+use Rattle.module_model.proofs.RulesLaws.{state_whole_law, state_other}
 use Rattle.module.proofs.rules.state_of.Statement.{statement}
 use Rattle.module.proofs.rules.state_of.Tie as tie
 

@@ -1,7 +1,7 @@
 -- `module::well_formed`: each test is one fact of the form.
 use native.Mathlib.Omega.{arith}
 use mathlib.Core.Path.{sym}
-use Rattle.module_model.specs.RulesLaws.{formed_no, formed_long}
+use Rattle.module_model.proofs.RulesLaws.{formed_no, formed_long}
 use borrow.Author.Rules.{rules}
 use Rattle.module.proofs.rules.well_formed.Statement.{statement}
 use Rattle.module.proofs.rules.well_formed.Tie as tie

@@ -9,7 +9,7 @@ use borrow.Author.Tests.{le-leb, lt-leb, lt-ltb, le-ltb}
 use Rattle.octets.proofs.Choice.{test_passed, test_failed}
 use Rattle.commands.specs.Commands.{largest_packet, largest_total}
 use Rattle.module_model.specs.Phases.{total_of, fits, cuts, loading_arises}
-use Rattle.module_model.specs.PhasesLaws.{cuts_facts}
+use Rattle.module_model.proofs.PhasesLaws.{cuts_facts}
 use Rattle.module.proofs.session.is_loading.Statement.{statement}
 use Rattle.module.proofs.session.is_loading.Tie as tie
 

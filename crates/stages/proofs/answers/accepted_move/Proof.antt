@@ -1,7 +1,7 @@
 -- `accepted_move`: the number is compared with the number of pieces.
 use mathlib.Core.Path.{sym}
 use native.Mathlib.Omega.{arith}
-use Rattle.host_model.specs.AnswersLaws.{accepted_last, accepted_before}
+use Rattle.host_model.proofs.AnswersLaws.{accepted_last, accepted_before}
 use borrow.Author.Rules.{rules}
 use Rattle.stages.proofs.answers.accepted_move.Statement.{statement}
 use Rattle.stages.proofs.answers.accepted_move.Tie as tie

@@ -1,7 +1,7 @@
 -- `by_ack`: each arm is one case of the definition.
 use mathlib.Core.Path.{sym, ap, ◌∙◌}
 use Rattle.host_model.specs.Answers.{by_ack}
-use Rattle.host_model.specs.AnswersLaws.{ack_accepted, ack_first, ack_second, ack_again, ack_other}
+use Rattle.host_model.proofs.AnswersLaws.{ack_accepted, ack_first, ack_second, ack_again, ack_other}
 use Rattle.stages.proofs.answers.by_ack.Statement.{statement}
 use Rattle.stages.proofs.answers.by_ack.Tie as tie
 

@@ -1,6 +1,6 @@
 -- `fits`: the command is compared, then the length.
 use mathlib.Core.Path.{sym}
-use Rattle.host_model.specs.AnswersLaws.{fitting_no, fitting_long}
+use Rattle.host_model.proofs.AnswersLaws.{fitting_no, fitting_long}
 use Rattle.stages.proofs.answers.fits.Statement.{statement}
 use Rattle.stages.proofs.answers.fits.Tie as tie
 

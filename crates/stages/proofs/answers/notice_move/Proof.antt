@@ -1,6 +1,6 @@
 -- `notice_move`: State 0 is the good one.
 use mathlib.Core.Path.{sym}
-use Rattle.host_model.specs.AnswersLaws.{notice_good, notice_bad}
+use Rattle.host_model.proofs.AnswersLaws.{notice_good, notice_bad}
 use Rattle.stages.proofs.answers.notice_move.Statement.{statement}
 use Rattle.stages.proofs.answers.notice_move.Tie as tie
 

@@ -1,7 +1,7 @@
 -- `packet_move`: PkNo is compared with the number sent, then with 0.
 use mathlib.Core.Path.{sym, ap, ◌∙◌}
 use Rattle.host_model.specs.Answers.{by_ack}
-use Rattle.host_model.specs.AnswersLaws.{packet_this, packet_none, packet_other}
+use Rattle.host_model.proofs.AnswersLaws.{packet_this, packet_none, packet_other}
 use Rattle.host_model.specs.declared.answers.Move.TheVariants.{Stay}
 use borrow.Author.Rules.{rules}
 use Rattle.stages.proofs.answers.packet_move.Statement.{statement}

@@ -1,5 +1,5 @@
 -- `parameters_move`: the size is the smaller of three, then the ACK decides.
-use Rattle.host_model.specs.AnswersLaws.{parameters_ack}
+use Rattle.host_model.proofs.AnswersLaws.{parameters_ack}
 use borrow.Author.Rules.{rules}
 use Rattle.stages.proofs.answers.parameters_move.Statement.{statement}
 use Rattle.stages.proofs.answers.parameters_move.Tie as tie

@@ -2,7 +2,7 @@
 use mathlib.Core.Path.{◌≡◌, sym, ap, ◌∙◌}
 use Rattle.host_model.specs.Stages.{number_of_rate}
 use Rattle.host_model.specs.Answers.{by_ack}
-use Rattle.host_model.specs.AnswersLaws.{rate_asked, rate_none, rate_other}
+use Rattle.host_model.proofs.AnswersLaws.{rate_asked, rate_none, rate_other}
 use Rattle.host_model.specs.declared.plan.Stage.TheVariants.{Declaring}
 use Rattle.host_model.specs.declared.answers.Move.TheVariants.{Stay, Enter}
 use borrow.Author.Rules.{rules}

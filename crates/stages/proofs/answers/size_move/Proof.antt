@@ -1,7 +1,7 @@
 -- `size_move`: each test is one fact of the size.
 use mathlib.Core.Path.{sym}
 use native.Mathlib.Omega.{arith}
-use Rattle.host_model.specs.AnswersLaws.{size_begins, size_stops}
+use Rattle.host_model.proofs.AnswersLaws.{size_begins, size_stops}
 use borrow.Author.Rules.{rules}
 use Rattle.stages.proofs.answers.size_move.Statement.{statement}
 use Rattle.stages.proofs.answers.size_move.Tie as tie

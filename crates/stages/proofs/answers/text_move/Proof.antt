@@ -1,6 +1,6 @@
 -- `text_move`: the line is compared with the answer to the start text.
 use mathlib.Core.Path.{sym, ◌∙◌}
-use Rattle.host_model.specs.AnswersLaws.{text_same, text_other}
+use Rattle.host_model.proofs.AnswersLaws.{text_same, text_other}
 use borrow.Author.Rules.{rules}
 use Rattle.stages.proofs.answers.text_move.Statement.{statement}
 use Rattle.stages.proofs.answers.text_move.Tie as tie

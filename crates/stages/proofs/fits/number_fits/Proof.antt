@@ -2,7 +2,7 @@
 use mathlib.Core.Path.{sym, ap, ◌∙◌}
 use native.Mathlib.Omega.{arith}
 use lib.Dec.{leb}
-use Rattle.host_model.specs.StagesLaws.{number_no, number_most}
+use Rattle.host_model.proofs.StagesLaws.{number_no, number_most}
 use borrow.Author.Rules.{rules}
 use Rattle.stages.proofs.fits.number_fits.Statement.{statement}
 use Rattle.stages.proofs.fits.number_fits.Tie as tie

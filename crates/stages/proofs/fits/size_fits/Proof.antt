@@ -3,7 +3,7 @@ use mathlib.Core.Path.{sym, ap, ◌∙◌}
 use native.Mathlib.Omega.{arith}
 use lib.Dec.{leb}
 use Rattle.commands.specs.Commands.{largest_total}
-use Rattle.host_model.specs.StagesLaws.{size_no, size_count}
+use Rattle.host_model.proofs.StagesLaws.{size_no, size_count}
 use borrow.Author.Rules.{rules}
 use Rattle.stages.proofs.fits.size_fits.Statement.{statement}
 use Rattle.stages.proofs.fits.size_fits.Tie as tie

@@ -5,8 +5,8 @@ use native.Mathlib.Numerals.{add-one}
 use native.Mathlib.Omega.{arith}
 use lib.ListN.{length, drop, length-drop}
 use Rattle.ubf_model.specs.Block.{size_of}
-use Rattle.ubf_model.specs.BlockLaws.{block_within, block_some}
-use Rattle.ubf_model.specs.WalkLaws.{nth_refused, nth_here, nth_last, nth_next}
+use Rattle.ubf_model.proofs.BlockLaws.{block_within, block_some}
+use Rattle.ubf_model.proofs.WalkLaws.{nth_refused, nth_here, nth_last, nth_next}
 use Prim.Native.Nat.{ℕ, suc, ◌-◌, ◌<◌}
 use borrow.Fn.Kinds.{In}
 use borrow.Fn.PlainCycle.{Measures, is, falls, and}

@@ -4,7 +4,7 @@ use native.Mathlib.Omega.{arith}
 use lib.ListN.{length}
 use Rattle.octets.specs.Octets.{laid, spelled}
 use Rattle.ubf_model.specs.Pack.{gathered, filled}
-use Rattle.ubf_model.specs.PackLaws.{TextsFit, texts_of_test, fits_field}
+use Rattle.ubf_model.proofs.PackLaws.{TextsFit, texts_of_test, fits_field}
 use borrow.Author.Rules.{rules}
 use Rattle.ubf_block.proofs.pack.lay_header.Statement.{statement}
 use Rattle.ubf_block.proofs.pack.lay_header.Tie as tie

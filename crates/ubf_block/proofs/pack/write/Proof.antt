@@ -12,7 +12,7 @@ use Rattle.octets.specs.Octets.{laid, over, lay_all, spelled, xor_words}
 use Rattle.kinds.specs.Kinds.{kind_of}
 use Rattle.ubf_model.specs.Block.{header_size, texts_fit}
 use Rattle.ubf_model.specs.Pack.{Fields, gathered, bytes_of, block_bytes, body_pieces, pairs, fits, pack_of}
-use Rattle.ubf_model.specs.PackLaws.{texts_of_test, length_block, block_built, body_built, fits_short}
+use Rattle.ubf_model.proofs.PackLaws.{texts_of_test, length_block, block_built, body_built, fits_short}
 use Rattle.refusals.specs.declared.Written.TheVariants.{Count}
 use borrow.Author.Rules.{rules}
 use Rattle.ubf_block.proofs.pack.write.Statement.{statement}

@@ -3,7 +3,7 @@ use borrow.Author.Rules.{rules}
 use mathlib.Core.Path.{sym, ap, ◌∙◌}
 use Rattle.octets.proofs.Choice.{test_passed, test_failed}
 use Rattle.host_model.specs.Waits.{wait}
-use Rattle.host_model.specs.NextsLaws.{plan_begins, plan_refused}
+use Rattle.host_model.proofs.NextsLaws.{plan_begins, plan_refused}
 use Rattle.host_model.specs.declared.nexts.Next.TheVariants.{Sends}
 use Rattle.waits.proofs.nexts.plan_next.Statement.{statement}
 use Rattle.waits.proofs.nexts.plan_next.Tie as tie

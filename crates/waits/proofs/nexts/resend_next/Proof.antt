@@ -1,7 +1,7 @@
 -- `resend_next`: again up to 3 times, then what follows the last repeat.
 use borrow.Author.Rules.{rules}
 use mathlib.Core.Path.{sym, ap, ◌∙◌}
-use Rattle.host_model.specs.NextsLaws.{resend_more, resend_enough}
+use Rattle.host_model.proofs.NextsLaws.{resend_more, resend_enough}
 use Rattle.host_model.specs.declared.nexts.Next.TheVariants.{Sends}
 use Rattle.waits.proofs.nexts.resend_next.Statement.{statement}
 use Rattle.waits.proofs.nexts.resend_next.Tie as tie

@@ -2,7 +2,7 @@
 use borrow.Author.Rules.{rules}
 use mathlib.Core.Path.{sym, ap, ◌∙◌}
 use native.Mathlib.Omega.{arith}
-use Rattle.host_model.specs.NextsLaws.{time_short, time_up}
+use Rattle.host_model.proofs.NextsLaws.{time_short, time_up}
 use Rattle.host_model.specs.declared.nexts.Next.TheVariants.{Waits}
 use Rattle.waits.proofs.nexts.time_next.Statement.{statement}
 use Rattle.waits.proofs.nexts.time_next.Tie as tie

@@ -3,7 +3,7 @@ use mathlib.Core.Path.{sym, ◌∙◌}
 use mathlib.Core.Bool.{false≢true}
 use native.Mathlib.Omega.{arith}
 use Rattle.octets.proofs.Choice.{test_passed, test_failed}
-use Rattle.host_model.specs.WaitsLaws.{wait_no, wait_stage}
+use Rattle.host_model.proofs.WaitsLaws.{wait_no, wait_stage}
 use borrow.Author.Rules.{rules}
 use Rattle.waits.proofs.waits.wait_fits.Statement.{statement}
 use Rattle.waits.proofs.waits.wait_fits.Tie as tie

@@ -2,7 +2,7 @@
 use borrow.Author.Rules.{rules}
 use mathlib.Core.Path.{sym, ap, ap₂, ◌∙◌}
 use Rattle.refusals.specs.Refusals.{wrong_type}
-use Rattle.host_model.specs.NextsLaws.{plan_small, small_next_same}
+use Rattle.host_model.proofs.NextsLaws.{plan_small, small_next_same}
 use Rattle.host_model.specs.declared.events.Answer.TheVariants.{Refused}
 use Rattle.host.specs.Session.{stepped}
 use Rattle.host.specs.Step.{Wishes, left, performs, known_opening, opening_of}

@@ -1,7 +1,7 @@
 -- `Session::performs`: each arm is one case of the definition.
 use borrow.Author.Rules.{rules}
 use mathlib.Core.Path.{sym, ap, ◌∙◌}
-use Rattle.host_model.specs.NextsLaws.{small_next_same}
+use Rattle.host_model.proofs.NextsLaws.{small_next_same}
 use Rattle.host_model.specs.declared.events.Answer.TheVariants.{Nothing}
 use Rattle.host.specs.Session.{stepped}
 use Rattle.host.specs.Step.{left, performs}

@@ -2,7 +2,7 @@
 use borrow.Author.Rules.{rules}
 use mathlib.Core.Path.{sym, ap, ◌∙◌}
 use lib.ListN.{length}
-use Rattle.host_model.specs.NextsLaws.{event_small, small_next_same}
+use Rattle.host_model.proofs.NextsLaws.{event_small, small_next_same}
 use Rattle.host.specs.Step.{left, performs}
 use Rattle.host.specs.StepLaws.{step_wrong_length, step_taken, taken_waits}
 use Rattle.host.proofs.session.Session.step.Statement.{statement}

@@ -1,7 +1,7 @@
 -- `Session::frame`: decided, stored, sent.
 use borrow.Author.Rules.{rules}
 use Rattle.module.specs.SessionLaws.{takes_facts}
-use Rattle.module_model.specs.PhasesLaws.{held_bounded}
+use Rattle.module_model.proofs.PhasesLaws.{held_bounded}
 use Rattle.module.specs.StepLaws.{frame_done}
 use Rattle.module.proofs.session.Session.frame.Statement.{statement}
 use Rattle.module.proofs.session.Session.frame.Tie as tie

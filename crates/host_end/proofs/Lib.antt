@@ -1,0 +1,2 @@
+-- The laws and theorems of this crate.
+pub mod TextLaws

@@ -1,0 +1,4 @@
+-- The laws and theorems of this crate.
+pub mod Back
+pub mod KeptLaws
+pub mod Run

@@ -1,0 +1,4 @@
+-- The laws and theorems of this crate.
+pub mod Calls
+pub mod Done
+pub mod Wrong

@@ -1,0 +1,4 @@
+-- The laws and theorems of this crate.
+pub mod CallLaws
+pub mod KeptLaws
+pub mod RunLaws
