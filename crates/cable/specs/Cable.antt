@@ -12,7 +12,7 @@ abbrev pub dash : List ℕ
 dash = text_of "-"
 
 -- A line is a terminal unless its path is the dash, and the dash never fails.
-abbrev pub Opens : Opened → List ℕ → Type 0
+abbrev pub Opens : {F : Type 0} → Opened F → List ℕ → Type 0
 Opens (Line cable) path = same_bytes path dash ≡ not cable.terminal
 Opens NotOpened path = same_bytes path dash ≡ false
 

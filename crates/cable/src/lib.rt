@@ -2,22 +2,26 @@
 // or writes; these say what the answers may be, and what the calls do is tested.
 #![tactic(auto)]
 
-ghost use Rattle.std.specs.Prelude.{length};
+ghost use Rattle.std.specs.Prelude.{length, ◌≤◌, IfOk};
 ghost use Rattle.cable.specs.Cable.{Opens, Comes};
 
-use libc::{STDIN_FILENO, STDOUT_FILENO};
+use console::voice;
+use std::fs::OpenOptions;
+use std::io;
+use std::io::{Read, Write};
+use std::rt::Files;
 
-// Where bytes come from and go to, and whether an empty read is silence: on a terminal it is 100 ms, elsewhere the end.
-#[derive(Clone, Copy)]
-pub struct Cable {
-    pub input: i32,
-    pub output: i32,
+// Where bytes come from and go to, and whether an empty read is silence: on a terminal it is 100 ms, elsewhere the end. Without a file
+// the bytes are those of standard input and output.
+#[derive(Drop)]
+pub struct Cable<F> {
+    pub file: Option<F>,
     pub terminal: bool,
 }
 
-#[derive(Clone, Copy)]
-pub enum Opened {
-    Line(Cable),
+#[derive(Drop)]
+pub enum Opened<F> {
+    Line(Cable<F>),
     Failed,
 }
 
@@ -33,49 +37,76 @@ pub enum Came {
 pub const SILENCE: u32 = 100;
 
 // Opens a terminal by its path; a dash is standard input and output. Where it fails standard error says why.
-pub fn open(path: &[u8]) -> Opened
+pub fn open<R: Files>(rt: &R, err: &impl Print, path: &[u8]) -> Opened<R::File>
     ensures { Opens result path.now }
 {
     if octets::same(path, b"-") {
         return Opened::Line(Cable {
-            input: STDIN_FILENO,
-            output: STDOUT_FILENO,
+            file: None,
             terminal: false,
         });
     }
-    let fd = os::open_update(path);
-    if fd < 0 {
-        os::fail(path);
-        return Opened::Failed;
+    match open_terminal(rt, err, path) {
+        None => Opened::Failed,
+        Some(file) => Opened::Line(Cable {
+            file: Some(file),
+            terminal: true,
+        }),
     }
-    Opened::Line(Cable {
-        input: fd,
-        output: fd,
-        terminal: true,
-    })
 }
 
-// Sends all bytes, and answers whether it did.
-pub fn send(cable: Cable, bytes: &[u8]) -> bool {
-    io::write_all(cable.output, bytes)
+// A terminal is read and written.
+fn open_terminal<R: Files>(rt: &R, err: &impl Print, path: &[u8]) -> Option<R::File> {
+    let name = console::path_text(err, path)?;
+    match OpenOptions::new().read(true).write(true).open(rt, name) {
+        Ok(file) => Some(file),
+        Err(error) => {
+            voice::fail(err, path, &error);
+            None
+        }
+    }
+}
+
+// Sends all bytes, or answers why not.
+pub fn send<F: Write>(rt: &impl Print, cable: &mut Cable<F>, bytes: &[u8]) -> io::Result<()> {
+    match &mut cable.file {
+        Some(file) => file.write_all(bytes),
+        None => rt.write_all(bytes),
+    }
 }
 
 // Reads once.
-pub fn listen(cable: Cable, buffer: &mut [u8]) -> Came
-    ensures { Comes result cable.terminal (length buffer.old) }
+pub fn listen<F: Read>(
+    rt: &impl Input,
+    err: &impl Print,
+    cable: &mut Cable<F>,
+    buffer: &mut [u8],
+) -> Came
+    ensures { Comes result cable.old.terminal (length buffer.old) }
 {
-    let got = libc::read(cable.input, buffer);
-    if got < 0 {
-        os::fail(b"the line");
-        return Came::Failed;
+    match read_once(rt, &mut cable.file, buffer) {
+        Err(error) => {
+            voice::fail(err, b"the line", &error);
+            Came::Failed
+        }
+        Ok(n) => {
+            if n > 0 {
+                return Came::Bytes(n);
+            }
+            if cable.terminal {
+                Came::Silence
+            } else {
+                Came::End
+            }
+        }
     }
-    let n = io::count(got, buffer);
-    if n > 0 {
-        return Came::Bytes(n);
-    }
-    if cable.terminal {
-        Came::Silence
-    } else {
-        Came::End
+}
+
+fn read_once<F: Read>(rt: &impl Input, file: &mut Option<F>, buffer: &mut [u8]) -> io::Result<usize>
+    ensures { IfOk result (λ n. n ≤ length buffer.old) }
+{
+    match file {
+        Some(file) => file.read(buffer),
+        None => rt.reader().read(buffer),
     }
 }

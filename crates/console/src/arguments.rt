@@ -1,14 +1,26 @@
 // Numbers among a program's arguments.
 ghost use Rattle.std.specs.Prelude.{◌<◌};
 
-// A number given as an argument, in decimal digits; u64::MAX where it is no such number or larger than any that is taken.
-pub fn argument_number(i: usize) -> u64 {
-    let mut text = [0u8; 16];
-    let n = os::arg(i, &mut text);
-    if os::errno() != 0 {
-        return u64::MAX;
+use std::env::FillError;
+use std::rt::Env;
+
+// How many arguments the program was started with, its own name among them.
+pub fn argument_count(rt: &impl Env) -> usize {
+    for i in 0..usize::MAX {
+        if let Err(FillError::NotPresent) = rt.arg(i, &mut []) {
+            return i;
+        }
     }
-    decimal_of(&text[..n])
+    usize::MAX
+}
+
+// A number given as an argument, in decimal digits; u64::MAX where it is no such number or larger than any that is taken.
+pub fn argument_number(rt: &impl Env, i: usize) -> u64 {
+    let mut text = [0u8; 16];
+    match rt.arg(i, &mut text) {
+        Ok(n) => decimal_of(octets::part(&text, 0, n)),
+        Err(_) => u64::MAX,
+    }
 }
 
 fn decimal_of(text: &[u8]) -> u64 {

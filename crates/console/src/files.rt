@@ -1,4 +1,10 @@
 // Whole files: read into a lent buffer, or written so that the name never stands for half of one.
+use crate::voice;
+use std::fs::{File, OpenFile};
+use std::io::{Read, Write};
+use std::rt::Files;
+use std::{fs, io};
+
 #[derive(Clone, Copy)]
 pub enum Got {
     // So many bytes stand at the front of the buffer.
@@ -19,65 +25,115 @@ pub fn flash_room() -> [u8; 262144] {
     [0u8; 262144]
 }
 
-pub fn read_whole(path: &[u8], buffer: &mut [u8]) -> Got {
-    let fd = os::open_read(path);
-    if fd < 0 {
-        os::fail(path);
-        return Got::Failed;
+// Room for any path.
+pub fn path_room() -> [u8; 4096] {
+    [0u8; 4096]
+}
+
+// Err is where standard error goes.
+pub fn read_whole(rt: &impl Files, err: &impl Print, path: &[u8], buffer: &mut [u8]) -> Got {
+    match read_path(rt, err, path, buffer) {
+        Ok(got) => got,
+        Err(error) => {
+            voice::fail(err, path, &error);
+            Got::Failed
+        }
     }
-    let n = io::read_full(fd, buffer);
+}
+
+fn read_path(rt: &impl Files, err: &impl Print, path: &[u8], buffer: &mut [u8]) -> io::Result<Got> {
+    match path_text(err, path) {
+        None => Ok(Got::Failed),
+        Some(name) => {
+            let mut file = File::open(rt, name)?;
+            read_open(&mut file, buffer)
+        }
+    }
+}
+
+fn read_open(file: &mut impl Read, buffer: &mut [u8]) -> io::Result<Got> {
+    let n = read_full(file, buffer)?;
     let mut more = [0u8; 1];
-    let left = libc::read(fd, &mut more);
-    if left < 0 {
-        os::fail(path);
-        libc::close(fd);
-        return Got::Failed;
+    if file.read(&mut more)? > 0 {
+        return Ok(Got::Larger);
     }
-    libc::close(fd);
-    if left > 0 {
-        return Got::Larger;
+    Ok(Got::Count(n))
+}
+
+// Reads until the buffer is full or the file ends, and answers how many bytes it put at the front.
+fn read_full(file: &mut impl Read, buffer: &mut [u8]) -> io::Result<usize> {
+    let mut done = 0;
+    while done < buffer.len() {
+        let n = file.read(&mut buffer[done..])?;
+        if n == 0 {
+            break;
+        }
+        done += n;
     }
-    Got::Count(n)
+    Ok(done)
+}
+
+// Files go by names of text. Where a path is none, standard error says so.
+pub fn path_text<'a>(err: &impl Print, path: &'a [u8]) -> Option<&'a str> {
+    match std::str::from_utf8(path) {
+        Ok(name) => Some(name),
+        Err(_) => {
+            voice::say(err, path);
+            voice::say(err, b": the name is no UTF-8 text\n");
+            None
+        }
+    }
 }
 
 // Writes under a name of its own beside the path, and takes the path's name only once all is written and kept. Answers whether it
 // did; if not, standard error says why, and the path is as it was.
-pub fn write_whole(path: &[u8], bytes: &[u8]) -> bool {
+pub fn write_whole(rt: &impl Files, err: &impl Print, path: &[u8], bytes: &[u8]) -> bool {
     let mut name = [0u8; 4096];
     octets::copy(path, &mut name, 0);
     octets::copy(b".part", &mut name, path.len());
     let length = path.len();
     if length > 4090 {
-        console_fail(path);
+        console_fail(err, path);
         return false;
     }
     let part = octets::part(&name, 0, length + 5);
-    write_as(part, path, bytes)
+    match (path_text(err, part), std::str::from_utf8(path)) {
+        (Some(part), Ok(path)) => write_as(rt, err, part, path, bytes),
+        _ => false,
+    }
 }
 
-fn console_fail(path: &[u8]) {
-    io::write_all(libc::STDERR_FILENO, path);
-    io::write_all(libc::STDERR_FILENO, b": the name is too long\n");
+fn console_fail(err: &impl Print, path: &[u8]) {
+    voice::say(err, path);
+    voice::say(err, b": the name is too long\n");
 }
 
-fn write_as(part: &[u8], path: &[u8], bytes: &[u8]) -> bool {
-    let fd = os::open_overwrite(part);
-    if fd < 0 {
-        os::fail(part);
+fn write_as(rt: &impl Files, err: &impl Print, part: &str, path: &str, bytes: &[u8]) -> bool {
+    let opened = File::create(rt, part);
+    let mut file = match opened {
+        Ok(file) => file,
+        Err(error) => {
+            voice::fail(err, part.as_bytes(), &error);
+            return false;
+        }
+    };
+    let kept = keep(&mut file, bytes);
+    drop(file);
+    if let Err(error) = kept {
+        voice::fail(err, part.as_bytes(), &error);
+        let _ = fs::remove_file(rt, part);
         return false;
     }
-    let is_written = io::write_all(fd, bytes);
-    let kept = libc::fsync(fd);
-    libc::close(fd);
-    if !is_written || kept != 0 {
-        os::fail(part);
-        os::unlink(part);
-        return false;
-    }
-    if os::rename(part, path) != 0 {
-        os::fail(path);
-        os::unlink(part);
+    if let Err(error) = fs::rename(rt, part, path) {
+        voice::fail(err, path.as_bytes(), &error);
+        let _ = fs::remove_file(rt, part);
         return false;
     }
     true
+}
+
+// All bytes, and then until they are kept.
+fn keep<F: Write + OpenFile>(file: &mut F, bytes: &[u8]) -> io::Result<()> {
+    file.write_all(bytes)?;
+    file.sync_all()
 }

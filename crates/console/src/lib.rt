@@ -1,5 +1,6 @@
 // What programs print for people, and whole files in and out. No contract can speak of what an operating system reads or writes, so
-// these calls are proved to be safe and to end, and what they do is tested.
+// these calls are proved to be safe and to end, and what they do is tested. What they print goes where Print writes: a runtime's
+// standard output, or its standard error. A write that fails is let be, since nothing is left to say so on.
 #![tactic(auto)]
 
 mod arguments;
@@ -7,6 +8,6 @@ mod files;
 mod show;
 pub mod voice;
 
-pub use arguments::argument_number;
-pub use files::{Got, file_room, flash_room, read_whole, write_whole};
+pub use arguments::{argument_count, argument_number};
+pub use files::{Got, file_room, flash_room, path_room, path_text, read_whole, write_whole};
 pub use show::{number, placed, refusal, row, say, text, word};
