@@ -337,7 +337,7 @@ module _ (s : Session) (w : Wait) (g : Given) (told : s.phase ≡ Waiting w) whe
   move_turn Stay reason = passed_over refl
   move_turn (Enter next) reason =
       message_turn (message_of w.plan g.image next) _ _ (onward next reason refl refl refl)
-  move_turn (Await next) (rate, size, all, next_is) =
+  move_turn (Await _) (rate, size, all, next_is) =
       awaits rate size all
       (ap (λ (n : Stage). left (stepped (waiting_of (length g.image) w.plan n 0 w.repeats) Nothing) g.output) next_is)
   move_turn Resend reason = due_turn reason
