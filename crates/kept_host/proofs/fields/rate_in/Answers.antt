@@ -1,4 +1,5 @@
 -- `rate_in`: each arm is one case of the definition.
+use borrow.Author.Rules.{rules}
 use borrow.Author.Tests.{ne_eqb}
 use Rattle.kept_host.specs.Kept.{rate_in}
 use Rattle.kept_host.proofs.fields.rate_in.Goals as goal
@@ -23,8 +24,8 @@ pub returns-in_default : goal.returns-in_default
 unfolding rate_in
 returns-in_default c =
     rw (
-      ne_eqb _ _ c.in_default.in_default-own.rest.0.0.0.1,
-      ne_eqb _ _ c.in_default.in_default-own.rest.0.0.1,
-      ne_eqb _ _ c.in_default.in_default-own.rest.0.1,
-      ne_eqb _ _ c.in_default.in_default-own.rest.1,
+      ne_eqb c.args.n 2 (search rules),
+      ne_eqb c.args.n 3 (search rules),
+      ne_eqb c.args.n 4 (search rules),
+      ne_eqb c.args.n 5 (search rules),
     )

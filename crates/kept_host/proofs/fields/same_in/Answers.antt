@@ -1,4 +1,5 @@
 -- `same_in`: each arm is one case of the definition.
+use borrow.Author.Rules.{rules}
 use borrow.Author.Tests.{ne_eqb}
 use Rattle.kept_host.specs.Kept.{same_in}
 use Rattle.kept_host.proofs.fields.same_in.Goals as goal
@@ -9,4 +10,4 @@ returns-in-1 c = rw c.in-1.is
 
 pub returns-in_default : goal.returns-in_default
 unfolding same_in
-returns-in_default c = rw (ne_eqb _ _ c.in_default.in_default-own.rest.1)
+returns-in_default c = rw (ne_eqb c.args.n 1 (search rules))
