@@ -1,5 +1,5 @@
 -- The laws and theorems of this crate.
 pub mod Back
-pub mod Calls
+pub mod CallLaws
 pub mod KeptLaws
 pub mod Wrong

@@ -41,12 +41,12 @@ use Rattle.kept_module.specs.Kept as module_kept
 use Rattle.kept_caller.specs.Kept.{caller_bytes, caller_in, caller_kept, kept_as, kept_hears, kept_waits}
 use Rattle.kept_caller.specs.Promises as caller
 use Rattle.kept_caller.proofs.Back as caller_back
-use Rattle.kept_caller.proofs.Calls.{kept_opening_law, kept_call}
+use Rattle.kept_caller.proofs.CallLaws.{kept_opening_law, kept_call}
 use Rattle.kept_post.specs.Kept as post_kept_law
 use Rattle.kept_post.specs.Kept.{post_bytes, post_in, post_kept}
 use Rattle.kept_post.specs.Promises as post
 use Rattle.kept_post.proofs.Back as post_back
-use Rattle.kept_post.proofs.Calls as post_calls
+use Rattle.kept_post.proofs.CallLaws as post_calls
 use Rattle.kept_line.specs.Called.{Called, Call, post_byte, post_time, caller_byte, caller_time, MayCall, post_called, caller_called, ours, called, caller_answers, called_all, MayCalls, begun}
 use Rattle.kept_line.specs.Promises.{FileByCalls}
 use Rattle.kept_line.proofs.Done.{hears_tells, waits_tells}

@@ -27,13 +27,13 @@ use Rattle.kept_host.specs.Kept as host_kept
 use Rattle.kept_caller.specs.Kept as caller
 use Rattle.kept_caller.specs.Kept.{caller_bytes, caller_in}
 use Rattle.kept_caller.proofs.Back as caller_back
-use Rattle.kept_caller.proofs.Calls.{kept_opening_law}
+use Rattle.kept_caller.proofs.CallLaws.{kept_opening_law}
 use Rattle.kept_caller.specs.Promises.{kept_opened}
 use Rattle.kept_post.specs.Kept as post
 use Rattle.kept_post.specs.Kept.{post_bytes, post_kept, post_in}
 use Rattle.kept_post.specs.Promises.{Keeps}
 use Rattle.kept_post.proofs.Back as post_back
-use Rattle.kept_post.proofs.Calls.{kept_made}
+use Rattle.kept_post.proofs.CallLaws.{kept_made}
 use Rattle.kept_line.specs.Called.{Called, Call, post_byte, caller_byte, caller_time, Ends, ours, MayBy, all_by, begun}
 use Rattle.kept_line.specs.Promises.{InFlashByCalls, FileByCallsOf}
 

@@ -22,7 +22,7 @@ use Rattle.kept_module.proofs.RunLaws.{opening_flash}
 use Rattle.kept_post.specs.Kept.{post_bytes, session_place, counts_of, post_kept, post_in, kept_new, kept_opening, kept_hears, kept_waits}
 use Rattle.kept_post.specs.Promises.{Keeps, KeptBackOf, Makes, Opens, Moves, PayloadBytes, KeptMadeOf, KeptCallOf}
 use Rattle.kept_post.proofs.Back.{kept_back}
-use Rattle.kept_post.proofs.Calls.{kept_made}
+use Rattle.kept_post.proofs.CallLaws.{kept_made}
 
 -- ---- ways to keep a post
 

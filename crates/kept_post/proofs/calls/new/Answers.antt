@@ -1,0 +1,14 @@
+-- `new`: one that waits, where it has room.
+use mathlib.Core.Path.{sym}
+use borrow.Author.Tests.{lt-ltb, le-ltb}
+use Rattle.octets.proofs.Choice.{cond_yes, cond_no}
+use Rattle.kept_post.specs.Kept.{kept_new}
+use Rattle.kept_post.proofs.calls.new.Goals as goal
+
+pub returns-then-state-lt-POST_BYTES : goal.returns-then-state-lt-POST_BYTES
+unfolding kept_new
+returns-then-state-lt-POST_BYTES c = sym (cond_yes _ _ _ (lt-ltb _ _ c.if-state-lt-POST_BYTES.true))
+
+pub returns : goal.returns
+unfolding kept_new
+returns c = rw (c.keep.ensures, c.waiting.ensures) (sym (cond_no _ _ _ (le-ltb _ _ c.if-state-lt-POST_BYTES.false)))
