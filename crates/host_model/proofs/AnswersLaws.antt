@@ -13,7 +13,6 @@ use Rattle.commands.specs.Commands.{start_answer}
 use Rattle.host_model.specs.Answers.{by_ack, lower_move, rate_move, piece_size, size_move, parameters_move, accepted_move, same_move, packet_move}
 use Rattle.host_model.specs.Answers.{notice_move, fitting, where_fitting, text_move}
 use Rattle.host_model.specs.declared.plan.Rate.{Rate}
-use Rattle.host_model.specs.declared.plan.Same.TheVariants as same
 use Rattle.host_model.specs.declared.plan.Plan.{Plan}
 use Rattle.host_model.specs.declared.plan.Stage.TheVariants.{Asking, Declaring, Sending, Noticing, Restarting}
 use Rattle.host_model.specs.declared.answers.Move.{Move}

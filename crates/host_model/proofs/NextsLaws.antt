@@ -16,7 +16,7 @@ use Rattle.host_model.specs.declared.events.Event.{Event}
 use Rattle.host_model.specs.declared.events.Event.TheVariants.{Frame, Line, Elapsed}
 use Rattle.host_model.specs.declared.events.Answer.TheVariants.{Refused}
 use Rattle.host_model.specs.declared.nexts.Next.{Next}
-use Rattle.host_model.specs.declared.nexts.Next.TheVariants.{Stays, Waits, Sends, Ends, Fails}
+use Rattle.host_model.specs.declared.nexts.Next.TheVariants.{Waits, Sends, Ends}
 use Rattle.host_model.specs.SmallNexts.{SmallNext}
 
 -- ---- repeats and time
@@ -61,8 +61,8 @@ resend_small w h = either_way SmallNext (ltb w.repeats most_repeats) (λ _. h) (
 
 move_small : (w : Wait) (move : Move) → Small w.stage → SmallMove move → SmallNext (move_next w move)
 move_small w Stay h m = tt
-move_small w (Enter next) h m = m
-move_small w (Await next) h m = tt
+move_small w (Enter _) h m = m
+move_small w (Await _) h m = tt
 move_small w Resend h m = resend_small w h
 move_small w (Refuse number passed) h m = tt
 move_small w TooMany h m = tt

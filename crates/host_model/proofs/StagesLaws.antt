@@ -10,9 +10,7 @@ use Rattle.host_model.specs.declared.plan.Rate.{Rate}
 use Rattle.host_model.specs.declared.plan.Plan.{Plan}
 use Rattle.host_model.specs.declared.plan.Stage.{Stage}
 use Rattle.host_model.specs.declared.plan.Stage.TheVariants.{Text, Asking, Declaring, Sending, Noticing, Restarting}
-use Rattle.host_model.specs.declared.answers.Move.{Move}
-use Rattle.host_model.specs.declared.answers.Move.TheVariants.{Stay, Enter, Await, Resend, Refuse, TooMany, Finish}
-use Rattle.host_model.specs.Small.{Small, SmallMove}
+use Rattle.host_model.specs.Small.{Small}
 
 -- A stage is small whatever name it has.
 pub small_same : (stage told : Stage) → stage ≡ told → Small stage → Small told

@@ -1,5 +1,4 @@
 -- What follows an event, where its packets fit a frame.
-use Rattle.std.specs.Prelude.{◌-◌}
 use Rattle.host_model.specs.Small.{Small}
 use Rattle.host_model.specs.declared.nexts.Next.{Next}
 use Rattle.host_model.specs.declared.nexts.Next.TheVariants.{Stays, Waits, Sends, Ends, Fails}

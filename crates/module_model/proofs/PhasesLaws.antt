@@ -2,7 +2,6 @@
 use Rattle.std.specs.Prelude.{ℕ, ◌*◌, ◌-◌, ◌≤◌, ◌<◌, true, false, ◌≡◌, refl, ltb, leb}
 use Rattle.std.proofs.Common.{mul-le-mul_right, arith, leb-true, le-leb, ltb-true, lt-ltb, eqb-true, eq-eqb}
 use Rattle.octets.proofs.Choice.{both}
-use Rattle.kinds.specs.Kinds.{longest_image}
 use Rattle.kinds.specs.KindsLaws.{FitsFlash, fits_flash_law, flash_fits}
 use Rattle.pieces.specs.PiecesLaws.{counted, count_some}
 use Rattle.commands.specs.Commands.{largest_packet, largest_total}
@@ -11,7 +10,7 @@ use Rattle.module_model.specs.Phases.{done_arises, held, closed_arises}
 use Rattle.module_model.specs.declared.phases.Pieces.{Pieces}
 use Rattle.module_model.specs.declared.phases.Phase.{Phase}
 use Rattle.module_model.specs.declared.phases.Phase.TheVariants.{Closed, Ready, Begun, Loading, Done}
-use Rattle.module_model.specs.Bounds.{Bounded, BoundedPhase}
+use Rattle.module_model.specs.Bounds.{BoundedPhase}
 
 -- ---- the flash and the idle sum
 

@@ -16,7 +16,6 @@ use Rattle.module_model.proofs.Leads.{advance_accepted}
 use Rattle.module_model.specs.declared.phases.Pieces.{Pieces}
 use Rattle.module_model.specs.declared.phases.Phase.{Phase}
 use Rattle.module_model.specs.declared.phases.Phase.TheVariants.{Closed, Ready, Begun, Loading, Done}
-use Rattle.module_model.specs.declared.events.Event.TheVariants.{Frame}
 use Rattle.module_model.specs.declared.rules.Decision.{Decision}
 use Rattle.module_model.specs.declared.rules.Say.{Say}
 use Rattle.module_model.specs.declared.rules.Say.TheVariants.{Nothing, Rate, Parameters, Packet, Last, Restart}

@@ -1,5 +1,5 @@
 -- Phases whose numbers are small enough for the rules.
-use Rattle.std.specs.Prelude.{ℕ, ◌-◌, ◌≤◌}
+use Rattle.std.specs.Prelude.{ℕ, ◌≤◌}
 use Rattle.kinds.specs.Kinds.{longest_image}
 use Rattle.commands.specs.Commands.{largest_packet, largest_total}
 use Rattle.module_model.specs.Phases.{total_of}

@@ -1,5 +1,5 @@
 -- The phases of a session: over which flash one can be opened, and which numbers of a phase can arise.
-use Rattle.std.specs.Prelude.{ℕ, ◌*◌, Bool, true, false, ◌&&◌, ◌||◌, eqb, ltb, leb, length}
+use Rattle.std.specs.Prelude.{ℕ, ◌*◌, Bool, true, false, ◌&&◌, ◌||◌, eqb, ltb, leb}
 use Rattle.kinds.specs.Kinds.{fits_flash}
 use Rattle.pieces.specs.Pieces.{count_of}
 use Rattle.commands.specs.Commands.{largest_packet, largest_total}

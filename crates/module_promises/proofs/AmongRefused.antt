@@ -1,7 +1,7 @@
 -- M3 among refused events: what is taken of a run is a run of its own, in which nobody else writes.
-use Rattle.std.specs.Prelude.{Bool, true, false, cond, List, [], ◌∷◌, ◌≡◌, refl, ℕ}
+use Rattle.std.specs.Prelude.{Bool, true, false, List, [], ◌∷◌, ◌≡◌, refl, ℕ}
 use Rattle.std.proofs.lemmas.Bool.{false≢true}
-use Rattle.std.proofs.Common.{sym, ap, ◌∙◌}
+use Rattle.std.proofs.Common.{ap, ◌∙◌}
 use Rattle.module_model.specs.Answers.{number_in, is_refused}
 use Rattle.module_promises.specs.Runs.{Given, Exchange, exchange, next_of, run_of, run_by, carried, carried_by}
 use Rattle.module_promises.specs.Promises.{NobodyElse, taken, offered, CleanAmongRefused}

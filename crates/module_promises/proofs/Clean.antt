@@ -9,7 +9,7 @@ use Rattle.kinds.specs.Kinds.{base_of}
 use Rattle.kinds.specs.KindsLaws.{FitsFlash}
 use Rattle.kinds.specs.declared.Kind.{Kind}
 use Rattle.pieces.specs.Pieces.{count_of}
-use Rattle.pieces.specs.PiecesLaws.{within, count_whole, count_only}
+use Rattle.pieces.specs.PiecesLaws.{count_whole, count_only}
 use Rattle.commands.specs.Commands.{packet_command, parameters_command, accepted, packet_reply, notice, parameters_for, packet_for}
 use Rattle.module_model.specs.Phases.{largest_flash, longest_idle, total_of}
 use Rattle.module_model.proofs.PhasesLaws.{cut_total}

@@ -7,10 +7,9 @@ use Rattle.octets.specs.Octets.{Bytes}
 use Rattle.wire.specs.Frame as wire
 use Rattle.module_model.specs.Phases.{longest_idle, is_closed}
 use Rattle.module_model.specs.Rules.{frames_of, decide_of}
-use Rattle.module_model.proofs.Outcomes.{stays, restarts}
 use Rattle.module_model.proofs.Leads.{held_open, frame_only}
 use Rattle.module_model.specs.Answers.{is_refused}
-use Rattle.module.specs.Session.{session, stepped, takes}
+use Rattle.module.specs.Session.{stepped, takes}
 use Rattle.module.specs.SessionLaws.{takes_facts}
 use Rattle.module.specs.Step.{Left, left, time_step, answer_of, step_of}
 use Rattle.module_promises.specs.Runs.{Given, exchange, next_of, payload_of}

@@ -28,7 +28,6 @@ use Rattle.module_model.specs.declared.phases.Phase.{Phase}
 use Rattle.module_model.specs.declared.phases.Phase.TheVariants.{Closed, Begun}
 use Rattle.module_model.specs.declared.events.Event.TheVariants.{Frame}
 use Rattle.module_model.specs.declared.events.Answer.TheVariants as answer
-use Rattle.module_model.specs.declared.rules.Say.TheVariants.{Nothing}
 use Rattle.module_model.specs.declared.rules.Put.{Put}
 use Rattle.module_model.specs.declared.rules.Decision.{Decision}
 use Rattle.module.specs.declared.session.Session.{Session}

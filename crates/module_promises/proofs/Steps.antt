@@ -14,7 +14,6 @@ use Rattle.module_promises.specs.Runs.{Given, exchange, payload_of, payload_in}
 use Rattle.module_model.specs.declared.events.Event.{Event}
 use Rattle.module_model.specs.declared.events.Event.TheVariants.{Frame, Elapsed}
 use Rattle.module_model.specs.declared.events.Answer.TheVariants as answer
-use Rattle.module_model.specs.declared.rules.Say.TheVariants.{Nothing}
 use Rattle.module.specs.declared.session.Session.{Session}
 
 -- What a step can be: refused; not taken; time in an open session; a frame in an open session.

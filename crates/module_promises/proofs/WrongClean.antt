@@ -6,7 +6,6 @@ use Rattle.refusals.specs.Refusals.{no_room}
 use Rattle.kinds.specs.Kinds.{kind_of, fits_flash}
 use Rattle.kinds.specs.declared.Kind.TheVariants.{Upgrade}
 use Rattle.pieces.specs.Pieces.{count_of}
-use Rattle.wire.specs.Frame as wire
 use Rattle.commands.specs.Commands.{not_understood, packet_reply}
 use Rattle.module_model.specs.Phases.{openable, alive}
 use Rattle.module_model.specs.Rules as rules

@@ -15,7 +15,7 @@ use Rattle.module_model.specs.Phases.{openable, alive, cuts, loading_arises, don
 use Rattle.module_model.specs.Rules.{decide_of}
 use Rattle.module_model.proofs.Replies.{Quiet, plain_quiet, packet_said}
 use Rattle.module_model.specs.Rules as rules
-use Rattle.module.specs.Session.{session, opening_of, takes}
+use Rattle.module.specs.Session.{opening_of, takes}
 use Rattle.module_promises.specs.Runs.{Step, Exchange, Offer, given, exchange_by, after_by, run_by, Says}
 use Rattle.module_promises.proofs.RunsLaws.{heard_performed}
 use Rattle.module_promises.specs.Promises.{online, opened, SuccessExactlyOf, Expected, ExpectedSucceedsOf}

@@ -1,0 +1,27 @@
+-- `Session::fails`: the restart frame is sent and the session ends, or all stays.
+use mathlib.Core.Path.{ap, ◌∙◌}
+use lib.ListN.{length}
+use Rattle.commands.specs.Commands.{restart_frame}
+use Rattle.host_model.specs.Messages.{goes_out}
+use Rattle.host_model.specs.declared.events.Answer.TheVariants.{Failed}
+use Rattle.host.specs.Session.{stepped}
+use Rattle.host.specs.Step.{left, failed_of}
+use Rattle.host.specs.StepLaws.{sends_counted, sends_refused}
+use Rattle.host.proofs.session.Session.fails.Goals as goal
+
+pub returns-in-Refused : goal.returns-in-Refused
+returns-in-Refused c =
+    let a = c.args in
+    let sent = c.send_restart-sent in
+    ap (λ x. left x sent.new.out) c.answers-in-Refused.ensures
+    ∙ sends_refused a.self (goes_out restart_frame) a.out.now sent.result sent.new.out sent.ensures _ _
+    c.in-Refused.is
+
+pub returns-in-Count : goal.returns-in-Count
+returns-in-Count c =
+    let a = c.args in
+    let sent = c.send_restart-sent in
+    ap (λ x. left x sent.new.out) c.answers.ensures
+    ∙ ap (λ s. left (stepped s (Failed a.number a.passed c.in-Count.n)) sent.new.out) c.failed.ensures
+    ∙ sends_counted a.self (goes_out restart_frame) a.out.now sent.result sent.new.out sent.ensures
+    (λ n. stepped (failed_of a.self (length a.image.now)) (Failed a.number a.passed n)) _ c.in-Count.is

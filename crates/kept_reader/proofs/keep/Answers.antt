@@ -1,0 +1,27 @@
+-- `keep`: the words, then the store behind them.
+use mathlib.Core.Path.{◌≡◌, refl, sym, ap, ◌∙◌}
+use borrow.Author.Tests.{lt-ltb}
+use lib.ListN.{length}
+use Rattle.wire.specs.Frame.{longest_content}
+use Rattle.octets.specs.Octets.{laid}
+use Rattle.octets.proofs.Choice.{cond_yes}
+use Rattle.kept_reader.specs.Kept.{store_place, bytes_of, reader_kept}
+use Rattle.kept_reader.proofs.KeptLaws.{words_and_store, kept_over}
+use Rattle.std.proofs.Common.{arith}
+use Rattle.kept_reader.proofs.keep.Goals as goal
+
+pub returns-then-state-lt-READER_BYTES : goal.returns-then-state-lt-READER_BYTES
+unfolding reader_kept
+returns-then-state-lt-READER_BYTES c = sym (cond_yes _ _ _ (lt-ltb _ _ c.if-state-lt-READER_BYTES.true))
+
+pub returns : goal.returns
+unfolding bytes_of
+returns c =
+    let a = c.args in
+    let room = c.if-state-lt-READER_BYTES.false in
+    let size : length a.reader.store ≡ longest_content = omega arith in
+    c.copy.ensures
+    ∙ ap (λ d. laid d store_place a.reader.store) c.store.ensures
+    ∙ words_and_store _ a.reader.store a.state.now refl (rw size room)
+    ∙ rw (c.low.ensures, c.flag_of.ensures, c.flag_of-2.ensures)
+    (sym (kept_over a.reader a.state.now room))

@@ -1,0 +1,18 @@
+-- `one`: at most three payload bytes always fit, so the writer does not refuse.
+use Rattle.wire.specs.Frame.{frame}
+use Rattle.module.specs.StepLaws.{wrote_one, wrote_never}
+use Rattle.module.proofs.replies.one.Goals as goal
+
+pub returns-in-Count : goal.returns-in-Count
+returns-in-Count c =
+    let a = c.args in
+    let p = c.requires in
+    let w = c.write-written in
+    wrote_one (frame a.command a.payload.now) a.reply.now p.0 p.1 _ _ _ w.ensures c.in-Count.is
+
+pub returns-in-Refused : goal.returns-in-Refused
+returns-in-Refused c =
+    let a = c.args in
+    let p = c.requires in
+    let w = c.write-written in
+    absurd (wrote_never (frame a.command a.payload.now) a.reply.now p.0 p.1 _ _ _ w.ensures c.in-Refused.is)
