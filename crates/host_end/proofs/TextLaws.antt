@@ -1,5 +1,5 @@
 -- The laws of a text on a line.
-use Rattle.std.specs.Prelude.{ℕ, ◌+◌, ◌≤◌, ◌<◌, List, length}
+use Rattle.std.specs.Prelude.{ℕ, ◌≤◌, ◌<◌, List, length}
 use Rattle.std.proofs.Common.{arith, ltb-true}
 use Rattle.octets.proofs.Choice.{either_way, both}
 use Rattle.host_end.specs.Text.{stands, followed}

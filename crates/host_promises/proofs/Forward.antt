@@ -27,7 +27,7 @@ use Rattle.host_model.specs.Answers.{by_ack, lower_move, piece_size, size_move, 
 use Rattle.host_model.specs.Answers.{fitting, frame_move, line_move}
 use Rattle.host_model.proofs.AnswersLaws.{ack_accepted, rate_asked, Carried, size_begins, parameters_ack, packet_this, text_same}
 use Rattle.host_model.proofs.AnswersLaws.{accepted_last, accepted_before}
-use Rattle.host.specs.Step.{Left, left, Wishes, sends, waiting_of, ended_of, enters, moved, event_step}
+use Rattle.host.specs.Step.{Left, left, Wishes, waiting_of, ended_of, enters, moved, event_step}
 use Rattle.host.specs.Step.{plan_of, opening_of}
 use Rattle.commands.specs.CommandsLaws.{piece_most, length_packet, length_parameters}
 use Rattle.host_model.specs.Small.{Small}

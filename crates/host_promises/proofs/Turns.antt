@@ -1,12 +1,12 @@
 -- H1 and H2: every step of a waiting host is one of the turns, and each turn with a reason comes where its reason holds.
-use Prim.Native.Nat.{ℕ, zero, suc, ◌+◌, ◌-◌, ◌^◌, ◌≤◌, ◌<◌}
+use Prim.Native.Nat.{ℕ, zero, suc, ◌+◌, ◌^◌, ◌≤◌, ◌<◌}
 use Rattle.std.specs.Prelude.{true, ◌&&◌, List, [], ◌∷◌, ◌++◌, ◌≡◌, eqb, ltb, length, take, get_or}
 use Rattle.std.proofs.Math.Path.{refl, ap}
 use Rattle.std.proofs.Common.{sym, ap₂, ◌∙◌, arith, take_at}
 use Rattle.std.proofs.Math.Decide.{dec_le, dec_lt, ℕ_discrete}
 use borrow.Author.Tests.{ltb-true, ltb-false, eqb-true, eqb-false, le-leb, leb-true, leb-false}
 use Rattle.std.proofs.Math.Dec.{leb}
-use Rattle.octets.specs.Octets.{Bytes, little, spelled, number_at, same_bytes, over}
+use Rattle.octets.specs.Octets.{Bytes, little, spelled, number_at, same_bytes}
 use Rattle.octets.proofs.OctetsLaws.{little_spelled, spelled_little, length_spelled, same_true, same_refl}
 use Rattle.octets.proofs.PartLaws.{number_short}
 use Rattle.octets.proofs.Lists.{bytes_take}
@@ -337,7 +337,7 @@ module _ (s : Session) (w : Wait) (g : Given) (told : s.phase ≡ Waiting w) whe
   move_turn Stay reason = passed_over refl
   move_turn (Enter next) reason =
       message_turn (message_of w.plan g.image next) _ _ (onward next reason refl refl refl)
-  move_turn (Await next) (rate, size, all, next_is) =
+  move_turn (Await _) (rate, size, all, next_is) =
       awaits rate size all
       (ap (λ (n : Stage). left (stepped (waiting_of (length g.image) w.plan n 0 w.repeats) Nothing) g.output) next_is)
   move_turn Resend reason = due_turn reason
@@ -509,7 +509,7 @@ module _ {s : Session} {w : Wait} {g : Given} (a : Awaits s w g) where
   -- A message that follows is entered.
   follows_leaves : (next : Stage) → Follows w.plan (length g.image) g w.stage next
       → leaves s g ≡ moved s w (Enter next) g.image g.output
-  follows_leaves next (started e h n) = rw n (heard_text e h)
+  follows_leaves _ (started e h n) = rw n (heard_text e h)
   follows_leaves next (agreed rate e h n) =
       heard_rate rate (number_of_rate rate) accepted (Enter next) e h
       (rate_asked rate (number_of_rate rate) accepted refl ∙ ack_accepted _ _ _ ∙ ap Enter (sym n))

@@ -57,10 +57,6 @@ loop-i-preserved c =
 pub overflow_mul-result : goal.overflow_mul-result
 overflow_mul-result c = omega arith
 
--- MISSED
--- same_length : tie.Need-same-length invariant-loop decreases-loop
--- same_length c = c.before.loop.invariant.2
-
 pub returns : goal.returns
 unfolding show_of
 returns c =

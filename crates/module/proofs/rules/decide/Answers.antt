@@ -2,6 +2,7 @@
 use mathlib.Core.Path.{sym, ap, ◌∙◌}
 use Rattle.module_model.specs.Rules.{decide_of}
 use Rattle.module_model.proofs.RulesLaws.{decide_rate, decide_parameters, decide_packet, decide_restart, decide_other}
+use Rattle.std.proofs.Common.{arith}
 use Rattle.module.proofs.rules.decide.Goals as goal
 
 pub returns-in-1 : goal.returns-in-1
@@ -34,8 +35,7 @@ returns-in-6 c =
 
 pub returns-in_default : goal.returns-in_default
 returns-in_default c =
-    let others = c.in_default.in_default-own.rest in
     c.unmoved_say.ensures
     ∙ sym
     (decide_other _ _ _ _
-    (record { rate = others.0.0.0.1; parameters = others.0.0.1; packet = others.0.1; restart = others.1 }))
+    (record { rate = omega arith; parameters = omega arith; packet = omega arith; restart = omega arith }))

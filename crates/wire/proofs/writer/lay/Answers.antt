@@ -58,16 +58,6 @@ bounds-out-at c =
     ap length l.invariant.3 ∙ lay_size a.content.now (set a.out.now 0 head_mark) l.invariant.1 l.i in
     omega (arith, room_tail a.content.now l.i)
 
--- MISSED
--- same_length : tie.Need-same-length invariant-loop decreases-loop
--- same_length c =
---     let l = c.before.loop in
---     let a = c.before.before.before.before.args in
---     length-set l.out l.at tail_mark
---     ∙ ap length l.invariant.3
---     ∙ lay_size a.content.now (set a.out.now 0 head_mark) l.invariant.1 l.i
---     ∙ length-set a.out.now 0 head_mark
-
 pub returns : goal.returns
 unfolding wire_form
 returns c =

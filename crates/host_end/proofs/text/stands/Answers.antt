@@ -1,0 +1,12 @@
+-- `stands`: the place is inside, and the byte is there.
+use borrow.Author.Tests.{lt-ltb, le-ltb}
+use Rattle.host_end.specs.Text.{stands}
+use Rattle.host_end.proofs.text.stands.Goals as goal
+
+pub returns-then-at-text : goal.returns-then-at-text
+unfolding stands
+returns-then-at-text c = simp (lt-ltb _ _ c.if-at-text.true)
+
+pub returns : goal.returns
+unfolding stands
+returns c = simp (le-ltb _ _ c.if-at-text.false)
