@@ -10,7 +10,6 @@ use Rattle.host_model.specs.declared.plan.Rate.{Rate}
 use Rattle.flat.specs.Words.{spelled_all, recorded, stands_for}
 use Rattle.flat.specs.WordsLaws.{length_spelled_all}
 use Rattle.flat.specs.Found.{recorded_alone}
-use Rattle.host.specs.Session.{session}
 use Rattle.host.specs.Step.{Left, left, step_of}
 use Rattle.host_model.specs.declared.waits.Phase.{Phase}
 use Rattle.host_model.specs.declared.waits.Phase.TheVariants.{Ended, EndedAt, Waiting}

@@ -81,8 +81,8 @@ module _ (s : Session) (w : Wait) (image output : List ℕ) (r : Real s) (short 
 
   moved_real : (move : Move) → RealLeft (moved s w move image output)
   moved_real Stay = r
-  moved_real (Enter next) = sends_real s _ _ output r (record { image_real = short; wish_real = wish })
-  moved_real (Await next) = record { image_real = short; wish_real = wish }
+  moved_real (Enter _) = sends_real s _ _ output r (record { image_real = short; wish_real = wish })
+  moved_real (Await _) = record { image_real = short; wish_real = wish }
   moved_real Resend = resends_real
   moved_real (Refuse number passed) = sends_real s _ _ output r (record { image_real = short; wish_real = failed_wish s.phase })
   moved_real TooMany = ended_real (length image) short

@@ -1,0 +1,15 @@
+-- `stage`: the number that the record of its stage has.
+use mathlib.Core.Path.{sym, ap, ◌∙◌}
+use Rattle.host.specs.declared.session.Session.{Session}
+use Rattle.kept_host.specs.Kept.{stage_number}
+use Rattle.kept_host.proofs.calls.stage.Goals as goal
+
+pub returns-in-Ended : goal.returns-in-Ended
+returns-in-Ended c = sym (ap stage_number (ap (λ (s : Session). s.phase) (sym c.session_in-session.ensures) ∙ c.in-Ended.is))
+
+pub returns-in-EndedAt : goal.returns-in-EndedAt
+returns-in-EndedAt c = sym (ap stage_number (ap (λ (s : Session). s.phase) (sym c.session_in-session.ensures) ∙ c.in-EndedAt.is))
+
+pub returns-in-Waiting : goal.returns-in-Waiting
+returns-in-Waiting c =
+    c.number_of.ensures ∙ sym (ap stage_number (ap (λ (s : Session). s.phase) (sym c.session_in-session.ensures) ∙ c.in-Waiting.is))

@@ -1,0 +1,13 @@
+-- `fields_in`: the image length, and the phase by the type.
+use Rattle.kept_host.specs.Kept.{fields_in}
+use Rattle.kept_host.proofs.fields.fields_in.Goals as goal
+
+pub returns : goal.returns
+unfolding fields_in
+returns c =
+    rw (
+      c.eight_at.ensures,
+      c.phase_in-phase.ensures,
+      c.kind_of.ensures,
+      c.two_at.ensures,
+    )
