@@ -6,7 +6,6 @@ ghost use Rattle.std.specs.Prelude.{length, ◌≤◌, IfOk};
 ghost use Rattle.cable.specs.Cable.{Opens, Comes};
 
 use console::voice;
-use std::fs::OpenOptions;
 use std::io;
 use std::io::{Read, Write};
 use std::rt::Files;
@@ -46,24 +45,12 @@ pub fn open<R: Files>(rt: &R, err: &impl Print, path: &[u8]) -> Opened<R::File>
             terminal: false,
         });
     }
-    match open_terminal(rt, err, path) {
+    match console::open_update(rt, err, path) {
         None => Opened::Failed,
         Some(file) => Opened::Line(Cable {
             file: Some(file),
             terminal: true,
         }),
-    }
-}
-
-// A terminal is read and written.
-fn open_terminal<R: Files>(rt: &R, err: &impl Print, path: &[u8]) -> Option<R::File> {
-    let name = console::path_text(err, path)?;
-    match OpenOptions::new().read(true).write(true).open(rt, name) {
-        Ok(file) => Some(file),
-        Err(error) => {
-            voice::fail(err, path, &error);
-            None
-        }
     }
 }
 

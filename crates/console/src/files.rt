@@ -1,6 +1,6 @@
 // Whole files: read into a lent buffer, or written so that the name never stands for half of one.
 use crate::voice;
-use std::fs::{File, OpenFile};
+use std::fs::{File, OpenFile, OpenOptions};
 use std::io::{Read, Write};
 use std::rt::Files;
 use std::{fs, io};
@@ -73,8 +73,20 @@ fn read_full(file: &mut impl Read, buffer: &mut [u8]) -> io::Result<usize> {
     Ok(done)
 }
 
+// Opens a file to be read and written, its bytes as they are. Where it can't be opened standard error says why.
+pub fn open_update<R: Files>(rt: &R, err: &impl Print, path: &[u8]) -> Option<R::File> {
+    let name = path_text(err, path)?;
+    match OpenOptions::new().read(true).write(true).open(rt, name) {
+        Ok(file) => Some(file),
+        Err(error) => {
+            voice::fail(err, path, &error);
+            None
+        }
+    }
+}
+
 // Files go by names of text. Where a path is none, standard error says so.
-pub fn path_text<'a>(err: &impl Print, path: &'a [u8]) -> Option<&'a str> {
+fn path_text<'a>(err: &impl Print, path: &'a [u8]) -> Option<&'a str> {
     match std::str::from_utf8(path) {
         Ok(name) => Some(name),
         Err(_) => {

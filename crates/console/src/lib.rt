@@ -9,5 +9,5 @@ mod show;
 pub mod voice;
 
 pub use arguments::{argument_count, argument_number};
-pub use files::{Got, file_room, flash_room, path_room, path_text, read_whole, write_whole};
+pub use files::{Got, file_room, flash_room, open_update, path_room, read_whole, write_whole};
 pub use show::{number, placed, refusal, row, say, text, word};

@@ -1,8 +1,9 @@
 // Reads raw bytes from standard input to its end and prints each frame: command, payload count, payload in hex or a dash.
 #![tactic(auto)]
 
-use libc::{STDIN_FILENO, STDOUT_FILENO};
+use console::voice;
 use reader::{Heard, Reader, Stepped};
+use std::io::Read;
 
 // The reader and the count of frames, as they go from one piece of input to the next.
 #[derive(Clone, Copy)]
@@ -12,17 +13,17 @@ struct Listening {
     more: bool,
 }
 
-fn main() {
-    io::write_all(STDOUT_FILENO, b"frames\n");
-    let total = listen();
-    io::write_all(STDOUT_FILENO, b"total ");
-    io::print_decimal(STDOUT_FILENO, total);
-    io::write_all(STDOUT_FILENO, b"\n");
+fn main(rt: HostRuntime) {
+    console::say(&rt, b"frames\n");
+    let total = listen(&rt, &rt.stderr());
+    console::say(&rt, b"total ");
+    let _ = rt.print(total);
+    console::say(&rt, b"\n");
 }
 
 // Takes the input piece by piece and answers how many frames it had. A proved loop has to end, and nothing says that the input
 // does: so it counts its turns down from a number that no run uses up.
-fn listen() -> u64 {
+fn listen(rt: &(impl Input + Print), err: &impl Print) -> u64 {
     let mut listening = Listening {
         reader: Reader::new(),
         total: 0,
@@ -30,43 +31,50 @@ fn listen() -> u64 {
     };
     let mut turns = u64::MAX;
     while turns > 0 && listening.more {
-        listening = take_piece(listening);
+        listening = take_piece(rt, err, listening);
         turns -= 1;
     }
     listening.total
 }
 
 // Reads once. The end of the input, or an input that can't be read, ends the listening.
-fn take_piece(listening: Listening) -> Listening {
-    let mut buffer = io::large_buffer();
-    let got = libc::read(STDIN_FILENO, &mut buffer);
-    if got <= 0 {
-        if got < 0 {
-            os::fail(b"standard input");
+fn take_piece(rt: &(impl Input + Print), err: &impl Print, listening: Listening) -> Listening {
+    let mut buffer = piece_room();
+    match rt.reader().read(&mut buffer) {
+        Ok(0) => ended(listening),
+        Ok(n) => take_bytes(rt, listening, octets::part(&buffer, 0, n)),
+        Err(error) => {
+            voice::fail(err, b"standard input", &error);
+            ended(listening)
         }
-        let mut ended = listening;
-        ended.more = false;
-        return ended;
     }
-    let n = io::count(got, &buffer);
-    take_bytes(listening, &buffer[..n])
 }
 
-fn take_bytes(listening: Listening, bytes: &[u8]) -> Listening {
+fn piece_room() -> [u8; 65536] {
+    [0u8; 65536]
+}
+
+fn ended(listening: Listening) -> Listening {
+    let mut ended = listening;
+    ended.more = false;
+    ended
+}
+
+fn take_bytes(rt: &impl Print, listening: Listening, bytes: &[u8]) -> Listening {
     let mut next = listening;
     let mut i = 0;
     while i < bytes.len() {
-        next = take_byte(next, bytes[i]);
+        next = take_byte(rt, next, bytes[i]);
         i += 1;
     }
     next
 }
 
-fn take_byte(listening: Listening, byte: u8) -> Listening {
+fn take_byte(rt: &impl Print, listening: Listening, byte: u8) -> Listening {
     let before = listening.reader;
     let stepped = before.step(byte);
     let reader = stepped.reader;
-    let total = show(stepped, listening.total);
+    let total = show(rt, stepped, listening.total);
     Listening {
         reader,
         total,
@@ -75,7 +83,7 @@ fn take_byte(listening: Listening, byte: u8) -> Listening {
 }
 
 // Prints the frame that a step handed out, if there is one, and counts it.
-fn show(stepped: Stepped, total: u64) -> u64 {
+fn show(rt: &impl Print, stepped: Stepped, total: u64) -> u64 {
     let heard = stepped.heard;
     match heard {
         Heard::Nothing => total,
@@ -83,27 +91,27 @@ fn show(stepped: Stepped, total: u64) -> u64 {
         Heard::Frame { command, count } => {
             let reader = stepped.reader;
             let store = reader.store;
-            show_frame(command, reader::payload(&store, count));
+            show_frame(rt, command, reader::payload(&store, count));
             std::num::wrapping_add_u64(total, 1)
         }
     }
 }
 
-fn show_frame(command: u8, payload: &[u8]) {
-    show_bytes(&[command]);
-    io::write_all(STDOUT_FILENO, b" ");
-    io::print_decimal(STDOUT_FILENO, payload.len() as u64);
-    io::write_all(STDOUT_FILENO, b" ");
+fn show_frame(rt: &impl Print, command: u8, payload: &[u8]) {
+    show_bytes(rt, &[command]);
+    console::say(rt, b" ");
+    console::number(rt, payload.len());
+    console::say(rt, b" ");
     if payload.len() == 0 {
-        io::write_all(STDOUT_FILENO, b"-");
+        console::say(rt, b"-");
     } else {
-        show_bytes(payload);
+        show_bytes(rt, payload);
     }
-    io::write_all(STDOUT_FILENO, b"\n");
+    console::say(rt, b"\n");
 }
 
-fn show_bytes(bytes: &[u8]) {
+fn show_bytes(rt: &impl Print, bytes: &[u8]) {
     let mut digits = [0u8; 2060];
     let n = hex_digits::show(bytes, &mut digits);
-    io::write_all(STDOUT_FILENO, &digits[..n]);
+    console::say(rt, &digits[..n]);
 }

@@ -16,11 +16,15 @@ fn zeros() -> [u8; 262156] {
 }
 
 // A step a line: what it does, how many bytes it has, the bytes, its words, a zero. The steps are those of play.rt.
-fn main() {
-    console::say(b"host_bench\n> sent on the wire   < heard on the wire, or time   = session\n");
+fn main(rt: HostRuntime) {
+    console::say(
+        &rt,
+        b"host_bench\n> sent on the wire   < heard on the wire, or time   = session\n",
+    );
     let mut images = zeros();
     octets::copy(&IMAGE, &mut images, ZEROS);
     play::play(
+        &rt,
         b"t\x00a clean load: type 1, 16 bytes, wish 8, start text, first rate 115200\0\
           l\x09\xFC\xFF\x03\x00\x10\x00\x00\x00\x40\0\
           o\x06\x01\x05\x08\x00\x01\x00\0\

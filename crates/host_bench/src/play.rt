@@ -21,11 +21,11 @@ struct Playing {
 }
 
 // No table has more steps than bytes.
-pub(crate) fn play(table: &[u8], images: &[u8]) {
+pub(crate) fn play(rt: &impl Print, table: &[u8], images: &[u8]) {
     let mut next = begun();
     let mut turns = table.len();
     while turns > 0 && next.at < table.len() {
-        next = turn(next, octets::behind(table, next.at), images);
+        next = turn(rt, next, octets::behind(table, next.at), images);
         turns -= 1;
     }
 }
@@ -52,7 +52,7 @@ fn begun() -> Playing {
 }
 
 // The step at the front of what is left.
-fn turn(playing: Playing, rest: &[u8], images: &[u8]) -> Playing {
+fn turn(rt: &impl Print, playing: Playing, rest: &[u8], images: &[u8]) -> Playing {
     let letter = octets::byte_at(rest, 0);
     let count = octets::byte_at(rest, 1) as usize;
     let head = std::num::wrapping_add_usize(count, 2);
@@ -64,7 +64,7 @@ fn turn(playing: Playing, rest: &[u8], images: &[u8]) -> Playing {
     if letter == b'l' {
         return lent(next, bytes);
     }
-    played(next, letter, bytes, words, images)
+    played(rt, next, letter, bytes, words, images)
 }
 
 fn on(playing: Playing, size: usize) -> Playing {
@@ -82,7 +82,14 @@ fn lent(playing: Playing, bytes: &[u8]) -> Playing {
 }
 
 // A step over the image and the output that are lent.
-fn played(playing: Playing, letter: u8, bytes: &[u8], words: &[u8], images: &[u8]) -> Playing {
+fn played(
+    rt: &impl Print,
+    playing: Playing,
+    letter: u8,
+    bytes: &[u8],
+    words: &[u8],
+    images: &[u8],
+) -> Playing {
     let n = playing.room;
     if n > 64 {
         return playing;
@@ -91,11 +98,12 @@ fn played(playing: Playing, letter: u8, bytes: &[u8], words: &[u8], images: &[u8
     let session = playing.session;
     let mut out = [0u8; 64];
     let mut next = playing;
-    next.session = step(session, letter, bytes, words, image, &mut out[..n]);
+    next.session = step(rt, session, letter, bytes, words, image, &mut out[..n]);
     next
 }
 
 fn step(
+    rt: &impl Print,
     session: Session,
     letter: u8,
     bytes: &[u8],
@@ -104,32 +112,32 @@ fn step(
     out: &mut [u8],
 ) -> Session {
     match letter {
-        b'f' => hear(session, bytes, image, out),
-        b'x' => hear_line(session, words, image, out),
-        b'w' => wait(session, octets::two_at(bytes, 0) as u32, image, out),
-        b'o' => open(bytes, image, out),
+        b'f' => hear(rt, session, bytes, image, out),
+        b'x' => hear_line(rt, session, words, image, out),
+        b'w' => wait(rt, session, octets::two_at(bytes, 0) as u32, image, out),
+        b'o' => open(rt, bytes, image, out),
         b'p' => open_quietly(bytes, image, out),
-        _ => show(session, letter, words),
+        _ => show(rt, session, letter, words),
     }
 }
 
 // Steps that give the session nothing.
-fn show(session: Session, letter: u8, words: &[u8]) -> Session {
+fn show(rt: &impl Print, session: Session, letter: u8, words: &[u8]) -> Session {
     if letter == b's' {
-        show_session(session);
+        show_session(rt, session);
         return session;
     }
-    console::say(b"\n");
-    console::say(words);
-    console::say(b"\n");
+    console::say(rt, b"\n");
+    console::say(rt, words);
+    console::say(rt, b"\n");
     session
 }
 
-fn open(bytes: &[u8], image: &[u8], out: &mut [u8]) -> Session {
+fn open(rt: &impl Print, bytes: &[u8], image: &[u8], out: &mut [u8]) -> Session {
     let stepped = opening(bytes, image, out);
     let session = stepped.session;
     let answer = stepped.answer;
-    show_answer(answer, out);
+    show_answer(rt, answer, out);
     session
 }
 
@@ -178,19 +186,19 @@ fn same_of(number: u8) -> Same {
 }
 
 // A frame of the module is heard, as it comes on the wire.
-fn hear(session: Session, bytes: &[u8], image: &[u8], out: &mut [u8]) -> Session {
+fn hear(rt: &impl Print, session: Session, bytes: &[u8], image: &[u8], out: &mut [u8]) -> Session {
     let command = octets::byte_at(bytes, 0);
     let payload = octets::behind(bytes, 1);
-    show_heard(command, payload);
-    take(session, arrived(command, payload), payload, image, out)
+    show_heard(rt, command, payload);
+    take(rt, session, arrived(command, payload), payload, image, out)
 }
 
-fn show_heard(command: u8, payload: &[u8]) {
+fn show_heard(rt: &impl Print, command: u8, payload: &[u8]) {
     let mut wire = [0u8; 64];
     let written = wire::write(command, payload, &mut wire);
     match written {
-        Written::Count(n) => show_message(Side::Heard, PLACES, octets::part(&wire, 0, n)),
-        Written::Refused(number) => console::refusal(number),
+        Written::Count(n) => show_message(rt, Side::Heard, PLACES, octets::part(&wire, 0, n)),
+        Written::Refused(number) => console::refusal(rt, number),
     }
 }
 
@@ -203,26 +211,46 @@ fn arrived(command: u8, payload: &[u8]) -> Event {
 }
 
 // A line of text is heard, its CR LF with it.
-fn hear_line(session: Session, line: &[u8], image: &[u8], out: &mut [u8]) -> Session {
-    show_message(Side::Heard, PLACES, line);
-    take(session, Event::Line { count: line.len() }, line, image, out)
+fn hear_line(
+    rt: &impl Print,
+    session: Session,
+    line: &[u8],
+    image: &[u8],
+    out: &mut [u8],
+) -> Session {
+    show_message(rt, Side::Heard, PLACES, line);
+    take(
+        rt,
+        session,
+        Event::Line { count: line.len() },
+        line,
+        image,
+        out,
+    )
 }
 
 // Milliseconds pass.
-fn wait(session: Session, ms: u32, image: &[u8], out: &mut [u8]) -> Session {
-    words_only(b"<", PLACES, b"");
-    console::number(ms as usize);
-    console::say(b" ms pass\n");
-    let next = take(session, Event::Elapsed(ms), b"", image, out);
-    show_session(next);
+fn wait(rt: &impl Print, session: Session, ms: u32, image: &[u8], out: &mut [u8]) -> Session {
+    words_only(rt, b"<", PLACES, b"");
+    console::number(rt, ms as usize);
+    console::say(rt, b" ms pass\n");
+    let next = take(rt, session, Event::Elapsed(ms), b"", image, out);
+    show_session(rt, next);
     next
 }
 
 // A step, and what it answers.
-fn take(session: Session, event: Event, bytes: &[u8], image: &[u8], out: &mut [u8]) -> Session {
+fn take(
+    rt: &impl Print,
+    session: Session,
+    event: Event,
+    bytes: &[u8],
+    image: &[u8],
+    out: &mut [u8],
+) -> Session {
     let stepped = session.step(event, bytes, image, out);
     let next = stepped.session;
     let answer = stepped.answer;
-    show_answer(answer, out);
+    show_answer(rt, answer, out);
     next
 }

@@ -15,52 +15,58 @@ pub(crate) fn erased() -> [u8; FLASH] {
 }
 
 // Prints the bytes from 0x7FFC to 0x8017, and judges the whole flash: so many bytes of the image stand in it, and nothing else.
-pub(crate) fn show_flash(count: usize, flash: &[u8]) {
-    show_line(0x7FFC, octets::part(flash, 0x7FFC, 4));
-    show_line(0x8000, octets::part(flash, 0x8000, 16));
-    show_line(0x8010, octets::part(flash, 0x8010, 8));
+pub(crate) fn show_flash(rt: &impl Print, count: usize, flash: &[u8]) {
+    show_line(rt, 0x7FFC, octets::part(flash, 0x7FFC, 4));
+    show_line(rt, 0x8000, octets::part(flash, 0x8000, 16));
+    show_line(rt, 0x8010, octets::part(flash, 0x8010, 8));
     let image = IMAGE;
     let mut wanted = erased();
     octets::copy(octets::part(&image, 0, count), &mut wanted, BASE);
-    judge(count, flash, &wanted);
+    judge(rt, count, flash, &wanted);
 }
 
 // An address and the bytes from there on.
-fn show_line(address: u32, bytes: &[u8]) {
-    console::say(b"flash  ");
-    console::word(address);
-    console::say(b" ");
-    console::row(bytes, 0);
-    console::say(b"\n");
+fn show_line(rt: &impl Print, address: u32, bytes: &[u8]) {
+    console::say(rt, b"flash  ");
+    console::word(rt, address);
+    console::say(rt, b" ");
+    console::row(rt, bytes, 0);
+    console::say(rt, b"\n");
 }
 
 // Whether a flash is as it should be: in the range of the image, before it and behind it.
-fn judge(count: usize, flash: &[u8], wanted: &[u8]) {
+fn judge(rt: &impl Print, count: usize, flash: &[u8], wanted: &[u8]) {
     let before = octets::part(flash, 0, BASE);
     let behind = octets::behind(octets::behind(flash, BASE), count);
-    console::say(b"flash  ");
-    console::number(count);
-    console::say(b" of 14 image bytes in place: ");
-    verdict(octets::same(
-        octets::part(flash, BASE, count),
-        octets::part(wanted, BASE, count),
-    ));
-    console::say(b"; ");
-    console::number(before.len());
-    console::say(b" before them all FF: ");
-    verdict(octets::same(before, octets::part(wanted, 0, BASE)));
-    console::say(b"; ");
-    console::number(behind.len());
-    console::say(b" behind all FF: ");
-    verdict(octets::same(behind, octets::behind(octets::behind(wanted, BASE), count)));
-    console::say(b"\n");
+    console::say(rt, b"flash  ");
+    console::number(rt, count);
+    console::say(rt, b" of 14 image bytes in place: ");
+    verdict(
+        rt,
+        octets::same(
+            octets::part(flash, BASE, count),
+            octets::part(wanted, BASE, count),
+        ),
+    );
+    console::say(rt, b"; ");
+    console::number(rt, before.len());
+    console::say(rt, b" before them all FF: ");
+    verdict(rt, octets::same(before, octets::part(wanted, 0, BASE)));
+    console::say(rt, b"; ");
+    console::number(rt, behind.len());
+    console::say(rt, b" behind all FF: ");
+    verdict(
+        rt,
+        octets::same(behind, octets::behind(octets::behind(wanted, BASE), count)),
+    );
+    console::say(rt, b"\n");
 }
 
 // A test's outcome; the one that nobody wants stands out.
-fn verdict(holds: bool) {
+fn verdict(rt: &impl Print, holds: bool) {
     if holds {
-        console::say(b"yes");
+        console::say(rt, b"yes");
     } else {
-        console::say(b"NO");
+        console::say(rt, b"NO");
     }
 }

@@ -9,12 +9,14 @@ pub(crate) const FLASH: usize = 32792;
 
 // A step a line: what it does, how many bytes it has, the bytes, its words, a zero. The steps are those of play.rt. The image is of type 1 and
 // has 14 bytes; a packet's bytes are command, Total, PkNo, PkSize, data.
-fn main() {
+fn main(rt: HostRuntime) {
     console::say(
+        &rt,
         b"module_bench\n> command and payload of a frame, or time   < reply on the wire   = session\n",
     );
     let mut flash = flash::erased();
     play::play(
+        &rt,
         b"t\x00opening over an empty flash\0\
           e\x00\0\
           n\x02\x01\x05rate 5, 115200\0\

@@ -16,11 +16,11 @@ struct Playing {
 }
 
 // No table has more steps than bytes.
-pub(crate) fn play(table: &[u8], flash: &mut [u8]) {
+pub(crate) fn play(rt: &impl Print, table: &[u8], flash: &mut [u8]) {
     let mut next = begun();
     let mut turns = table.len();
     while turns > 0 && next.at < table.len() {
-        next = turn(next, octets::behind(table, next.at), flash);
+        next = turn(rt, next, octets::behind(table, next.at), flash);
         turns -= 1;
     }
 }
@@ -35,7 +35,7 @@ fn begun() -> Playing {
 }
 
 // The step at the front of what is left.
-fn turn(playing: Playing, rest: &[u8], flash: &mut [u8]) -> Playing {
+fn turn(rt: &impl Print, playing: Playing, rest: &[u8], flash: &mut [u8]) -> Playing {
     let count = octets::byte_at(rest, 1) as usize;
     let head = std::num::wrapping_add_usize(count, 2);
     let behind = octets::behind(rest, head);
@@ -43,6 +43,7 @@ fn turn(playing: Playing, rest: &[u8], flash: &mut [u8]) -> Playing {
     let size = std::num::wrapping_add_usize(head, std::num::wrapping_add_usize(words.len(), 1));
     let session = playing.session;
     let next = step(
+        rt,
         session,
         octets::byte_at(rest, 0),
         octets::part(rest, 2, count),
@@ -55,68 +56,95 @@ fn turn(playing: Playing, rest: &[u8], flash: &mut [u8]) -> Playing {
     }
 }
 
-fn step(session: Session, letter: u8, bytes: &[u8], words: &[u8], flash: &mut [u8]) -> Session {
+fn step(
+    rt: &impl Print,
+    session: Session,
+    letter: u8,
+    bytes: &[u8],
+    words: &[u8],
+    flash: &mut [u8],
+) -> Session {
     match letter {
-        b'f' => give(session, bytes, words, flash),
-        b'w' => wait(session, octets::two_at(bytes, 0) as u32, flash),
-        b'r' => give_short(session, bytes, words, flash),
-        b'l' => give_other(session, bytes, words),
-        b'n' => give_none(session, bytes, words),
-        _ => show(session, letter, bytes, words, flash),
+        b'f' => give(rt, session, bytes, words, flash),
+        b'w' => wait(rt, session, octets::two_at(bytes, 0) as u32, flash),
+        b'r' => give_short(rt, session, bytes, words, flash),
+        b'l' => give_other(rt, session, bytes, words),
+        b'n' => give_none(rt, session, bytes, words),
+        _ => show(rt, session, letter, bytes, words, flash),
     }
 }
 
 // Steps that give the session nothing.
-fn show(session: Session, letter: u8, bytes: &[u8], words: &[u8], flash: &[u8]) -> Session {
+fn show(
+    rt: &impl Print,
+    session: Session,
+    letter: u8,
+    bytes: &[u8],
+    words: &[u8],
+    flash: &[u8],
+) -> Session {
     match letter {
-        b's' => show_session(session),
-        b'c' => show_flash(octets::byte_at(bytes, 0) as usize, flash),
-        b't' => show_title(words),
-        b'o' => return open(flash),
-        _ => return open(b""),
+        b's' => show_session(rt, session),
+        b'c' => show_flash(rt, octets::byte_at(bytes, 0) as usize, flash),
+        b't' => show_title(rt, words),
+        b'o' => return open(rt, flash),
+        _ => return open(rt, b""),
     }
     session
 }
 
-fn show_title(words: &[u8]) {
-    console::say(b"\n");
-    console::say(words);
-    console::say(b"\n");
+fn show_title(rt: &impl Print, words: &[u8]) {
+    console::say(rt, b"\n");
+    console::say(rt, words);
+    console::say(rt, b"\n");
 }
 
 // Opens a session and says how that went.
-fn open(flash: &[u8]) -> Session {
+fn open(rt: &impl Print, flash: &[u8]) -> Session {
     let stepped = Session::opening(flash);
     let session = stepped.session;
     let answer = stepped.answer;
-    show_opening(answer);
-    show_session(session);
+    show_opening(rt, answer);
+    show_session(rt, session);
     session
 }
 
 // A frame arrives, and there is room for any reply.
-fn give(session: Session, bytes: &[u8], words: &[u8], flash: &mut [u8]) -> Session {
+fn give(
+    rt: &impl Print,
+    session: Session,
+    bytes: &[u8],
+    words: &[u8],
+    flash: &mut [u8],
+) -> Session {
     let mut reply = [0u8; 64];
-    give_into(session, bytes, words, flash, &mut reply)
+    give_into(rt, session, bytes, words, flash, &mut reply)
 }
 
-fn give_short(session: Session, bytes: &[u8], words: &[u8], flash: &mut [u8]) -> Session {
+fn give_short(
+    rt: &impl Print,
+    session: Session,
+    bytes: &[u8],
+    words: &[u8],
+    flash: &mut [u8],
+) -> Session {
     let mut reply = [0u8; 63];
-    give_into(session, bytes, words, flash, &mut reply)
+    give_into(rt, session, bytes, words, flash, &mut reply)
 }
 
-fn give_other(session: Session, bytes: &[u8], words: &[u8]) -> Session {
+fn give_other(rt: &impl Print, session: Session, bytes: &[u8], words: &[u8]) -> Session {
     let mut flash = [0xFFu8; 100];
-    give(session, bytes, words, &mut flash)
+    give(rt, session, bytes, words, &mut flash)
 }
 
-fn give_none(session: Session, bytes: &[u8], words: &[u8]) -> Session {
+fn give_none(rt: &impl Print, session: Session, bytes: &[u8], words: &[u8]) -> Session {
     let mut flash = [0u8; 0];
-    give(session, bytes, words, &mut flash)
+    give(rt, session, bytes, words, &mut flash)
 }
 
 // A frame arrives, with this reply buffer: command and payload.
 fn give_into(
+    rt: &impl Print,
     session: Session,
     bytes: &[u8],
     words: &[u8],
@@ -124,32 +152,33 @@ fn give_into(
     reply: &mut [u8],
 ) -> Session {
     let payload = octets::behind(bytes, 1);
-    console::say(b">");
-    console::row(octets::part(bytes, 0, 1), 1);
-    console::row(payload, 10);
-    console::say(b"  ");
-    console::say(words);
-    console::say(b"\n");
+    console::say(rt, b">");
+    console::row(rt, octets::part(bytes, 0, 1), 1);
+    console::row(rt, payload, 10);
+    console::say(rt, b"  ");
+    console::say(rt, words);
+    console::say(rt, b"\n");
     let event = Event::Frame {
         command: octets::byte_at(bytes, 0),
         count: payload.len(),
     };
-    take(session, event, payload, flash, reply)
+    take(rt, session, event, payload, flash, reply)
 }
 
 // Milliseconds pass.
-fn wait(session: Session, ms: u32, flash: &mut [u8]) -> Session {
-    words_only(b">", PLACES, b"");
-    console::number(ms as usize);
-    console::say(b" ms pass\n");
+fn wait(rt: &impl Print, session: Session, ms: u32, flash: &mut [u8]) -> Session {
+    words_only(rt, b">", PLACES, b"");
+    console::number(rt, ms as usize);
+    console::say(rt, b" ms pass\n");
     let mut reply = [0u8; 64];
-    let next = take(session, Event::Elapsed(ms), b"", flash, &mut reply);
-    show_session(next);
+    let next = take(rt, session, Event::Elapsed(ms), b"", flash, &mut reply);
+    show_session(rt, next);
     next
 }
 
 // A step, and what it answers.
 fn take(
+    rt: &impl Print,
     session: Session,
     event: Event,
     payload: &[u8],
@@ -159,6 +188,6 @@ fn take(
     let stepped = session.step(event, payload, flash, reply);
     let next = stepped.session;
     let answer = stepped.answer;
-    show_answer(answer, reply);
+    show_answer(rt, answer, reply);
     next
 }

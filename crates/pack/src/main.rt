@@ -4,41 +4,55 @@
 use console::Got;
 use kinds::Known;
 use refusals::Written;
+use std::env::FillError;
+use std::rt::{Env, Files};
 use ubf::{Found, Numbers};
 
-fn main() {
-    if os::arg_count() != 9 {
-        usage();
+fn main(rt: HostRuntime) {
+    if console::argument_count(&rt) != 9 {
+        usage(&rt);
         return;
     }
+    let mut path = console::path_room();
+    match rt.arg(1, &mut path) {
+        Ok(length) => pack_file(&rt, &rt.stderr(), octets::part(&path, 0, length)),
+        Err(_) => usage(&rt),
+    }
+}
+
+// Reads the image, if it is not too large, and packs it.
+fn pack_file(rt: &(impl Env + Files + Print), err: &impl Print, path: &[u8]) {
     let mut image = console::flash_room();
-    let mut path = io::buffer();
-    let length = os::arg(1, &mut path);
-    if os::errno() != 0 {
-        usage();
-        return;
-    }
-    match console::read_whole(&path[..length], &mut image) {
-        Got::Count(n) => pack_image(octets::part(&image, 0, n)),
+    match console::read_whole(rt, err, path, &mut image) {
+        Got::Count(n) => pack_image(rt, err, octets::part(&image, 0, n)),
         Got::Failed => (),
         Got::Larger => {
-            console::text(&path[..length]);
-            console::say(b": larger than 262,144 bytes, more than any image has\n");
+            console::text(rt, path);
+            console::say(
+                rt,
+                b": larger than 262,144 bytes, more than any image has\n",
+            );
         }
     }
 }
 
-fn usage() {
-    console::say(b"usage: pack IMAGE OUT TYPE START MODEL VERSION NAME DATE\n");
-    console::say(b"TYPE is 1, 2 or 3; START is where the image starts in the block, 208 or more\n");
+fn usage(rt: &impl Print) {
+    console::say(
+        rt,
+        b"usage: pack IMAGE OUT TYPE START MODEL VERSION NAME DATE\n",
+    );
+    console::say(
+        rt,
+        b"TYPE is 1, 2 or 3; START is where the image starts in the block, 208 or more\n",
+    );
 }
 
 // Takes type and start, and works out the address that goes with the type.
-fn pack_image(image: &[u8]) {
-    let number = console::argument_number(3);
-    let start = console::argument_number(4);
+fn pack_image(rt: &(impl Env + Files + Print), err: &impl Print, image: &[u8]) {
+    let number = console::argument_number(rt, 3);
+    let start = console::argument_number(rt, 4);
     if number > 65535 || start > 4294967295 {
-        usage();
+        usage(rt);
         return;
     }
     let numbers = Numbers {
@@ -46,7 +60,7 @@ fn pack_image(image: &[u8]) {
         address: address_of((number % 65536) as u16),
         start: (start % 4294967296) as u32,
     };
-    pack_texts(numbers, image);
+    pack_texts(rt, err, numbers, image);
 }
 
 // The address of a type; a type that is not known has none, and the writer refuses it.
@@ -57,15 +71,15 @@ fn address_of(number: u16) -> u32 {
     }
 }
 
-fn pack_texts(numbers: Numbers, image: &[u8]) {
+fn pack_texts(rt: &(impl Env + Files + Print), err: &impl Print, numbers: Numbers, image: &[u8]) {
     let mut model = [0u8; 256];
     let mut version = [0u8; 256];
     let mut name = [0u8; 256];
     let mut date = [0u8; 256];
-    let m = argument(5, &mut model);
-    let v = argument(6, &mut version);
-    let f = argument(7, &mut name);
-    let d = argument(8, &mut date);
+    let m = argument(rt, 5, &mut model);
+    let v = argument(rt, 6, &mut version);
+    let f = argument(rt, 7, &mut name);
+    let d = argument(rt, 8, &mut date);
     let mut out = console::file_room();
     let answer = ubf::write(
         numbers,
@@ -77,49 +91,51 @@ fn pack_texts(numbers: Numbers, image: &[u8]) {
         &mut out,
     );
     match answer {
-        Written::Count(n) => keep(octets::part(&out, 0, n)),
+        Written::Count(n) => keep(rt, err, octets::part(&out, 0, n)),
         Written::Refused(number) => {
-            console::refusal(number);
-            console::say(b"\n");
+            console::refusal(rt, number);
+            console::say(rt, b"\n");
         }
     }
 }
 
 // An argument; one that is too long for any field stays as long as the room for it, and the writer refuses it.
-fn argument(i: usize, text: &mut [u8]) -> usize {
-    let n = os::arg(i, text);
-    if os::errno() == libc::ENAMETOOLONG {
-        return text.len();
+fn argument(rt: &impl Env, i: usize, text: &mut [u8]) -> usize {
+    match rt.arg(i, text) {
+        Ok(n) => n,
+        Err(FillError::TooLong) => text.len(),
+        Err(FillError::NotPresent) => 0,
     }
-    n
 }
 
 // Writes the block under its name, and says what it holds.
-fn keep(block: &[u8]) {
-    let mut path = io::buffer();
-    let length = os::arg(2, &mut path);
-    if os::errno() != 0 {
-        usage();
-        return;
-    }
-    if console::write_whole(&path[..length], block) {
-        console::text(&path[..length]);
-        console::say(b": ");
-        console::number(block.len());
-        console::say(b" bytes, ");
-        show(ubf::read(block));
+fn keep(rt: &(impl Env + Files + Print), err: &impl Print, block: &[u8]) {
+    let mut path = console::path_room();
+    match rt.arg(2, &mut path) {
+        Ok(length) => keep_as(rt, err, octets::part(&path, 0, length), block),
+        Err(_) => usage(rt),
     }
 }
 
-fn show(found: Found) {
+fn keep_as(rt: &(impl Files + Print), err: &impl Print, path: &[u8], block: &[u8]) {
+    if console::write_whole(rt, err, path, block) {
+        console::text(rt, path);
+        console::say(rt, b": ");
+        console::number(rt, block.len());
+        console::say(rt, b" bytes, ");
+        show(rt, ubf::read(block));
+    }
+}
+
+fn show(rt: &impl Print, found: Found) {
     match found {
-        Found::Refused(number) => console::refusal(number),
+        Found::Refused(number) => console::refusal(rt, number),
         Found::Whole(block) => {
             let kind = block.kind;
-            console::placed(kind, block.extent, block.start);
-            console::say(b", check ");
-            console::word(block.check);
+            console::placed(rt, kind, block.extent, block.start);
+            console::say(rt, b", check ");
+            console::word(rt, block.check);
         }
     }
-    console::say(b"\n");
+    console::say(rt, b"\n");
 }
