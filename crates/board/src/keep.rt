@@ -1,5 +1,8 @@
 // The flash in its file: only what a packet has changed is written.
+use console::voice;
 use posts::View;
+use std::io;
+use std::io::{Seek, SeekFrom, Write};
 
 #[derive(Clone, Copy)]
 pub struct Kept {
@@ -8,7 +11,13 @@ pub struct Kept {
 }
 
 // An accepted packet has written from where the range ended before to where it ends now.
-pub fn keep_packet(file: i32, before: View, after: View, flash: &[u8]) -> Kept {
+pub fn keep_packet<F: Write + Seek>(
+    err: &impl Print,
+    file: &mut F,
+    before: View,
+    after: View,
+    flash: &[u8],
+) -> Kept {
     if after.written <= before.written {
         return Kept {
             count: 0,
@@ -19,16 +28,22 @@ pub fn keep_packet(file: i32, before: View, after: View, flash: &[u8]) -> Kept {
     let at = std::num::wrapping_add_usize(after.base, before.written);
     Kept {
         count: count,
-        failed: !write_at(file, octets::part(flash, at, count), at),
+        failed: !write_at(err, file, octets::part(flash, at, count), at),
     }
 }
 
 // Writes all bytes at a place, and answers whether it did. A packet is small, so one call takes it whole or has failed.
-fn write_at(file: i32, bytes: &[u8], at: usize) -> bool {
-    let done = libc::pwrite(file, bytes, (at % 4294967296) as i64);
-    if done < 0 {
-        os::fail(b"the flash file");
-        return false;
+fn write_at<F: Write + Seek>(err: &impl Print, file: &mut F, bytes: &[u8], at: usize) -> bool {
+    match write_once(file, bytes, (at % 4294967296) as u64) {
+        Ok(done) => done == bytes.len(),
+        Err(error) => {
+            voice::fail(err, b"the flash file", &error);
+            false
+        }
     }
-    io::count(done, bytes) == bytes.len()
+}
+
+fn write_once<F: Write + Seek>(file: &mut F, bytes: &[u8], at: u64) -> io::Result<usize> {
+    file.seek(SeekFrom::Start(at))?;
+    file.write(bytes)
 }

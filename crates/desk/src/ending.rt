@@ -3,32 +3,32 @@ use console::voice;
 use posts::Ending;
 
 // Done, or the number, its words and what was passed on.
-pub fn show_ending(fd: i32, ending: Ending, packets: usize, resent: usize) {
+pub fn show_ending(to: &impl Print, ending: Ending, packets: usize, resent: usize) {
     if !ending.over {
-        voice::say(fd, b"not ended");
+        voice::say(to, b"not ended");
     } else if ending.number == 0 {
-        voice::say(fd, b"done");
+        voice::say(to, b"done");
     } else {
-        voice::refusal(fd, ending.number);
-        show_passed(fd, ending.number, ending.passed);
+        voice::refusal(to, ending.number);
+        show_passed(to, ending.number, ending.passed);
     }
     voice::tell(
-        fd,
+        to,
         b"; packets accepted \0, messages resent \0\n",
         &[packets, resent],
     );
 }
 
-fn show_passed(fd: i32, number: u8, passed: u8) {
+fn show_passed(to: &impl Print, number: u8, passed: u8) {
     match number {
-        refusals::MODULE_REFUSED => show_byte(fd, b", ACK ", passed),
-        refusals::BAD_NOTICE => show_byte(fd, b", State ", passed),
+        refusals::MODULE_REFUSED => show_byte(to, b", ACK ", passed),
+        refusals::BAD_NOTICE => show_byte(to, b", State ", passed),
         _ => (),
     }
 }
 
-fn show_byte(fd: i32, words: &[u8], passed: u8) {
-    voice::say(fd, words);
-    voice::byte(fd, passed);
-    voice::say(fd, b" passed on");
+fn show_byte(to: &impl Print, words: &[u8], passed: u8) {
+    voice::say(to, words);
+    voice::byte(to, passed);
+    voice::say(to, b" passed on");
 }

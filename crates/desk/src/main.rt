@@ -6,8 +6,8 @@ mod verdict;
 
 use console::{Got, voice};
 use kinds::Kind;
-use libc::STDOUT_FILENO;
 use posts::Post;
+use std::rt::{Env, Files};
 use ubf::{Block, Nth};
 
 // What the arguments ask for.
@@ -27,45 +27,49 @@ struct Walk {
     noise: u64,
 }
 
-fn main() {
+fn main(rt: HostRuntime) {
     let wish = Wish {
-        seed: console::argument_number(2),
-        rate: console::argument_number(3),
+        seed: console::argument_number(&rt, 2),
+        rate: console::argument_number(&rt, 3),
     };
-    if os::arg_count() != 4 || wish.seed == u64::MAX || wish.rate > 100000 {
+    if console::argument_count(&rt) != 4 || wish.seed == u64::MAX || wish.rate > 100000 {
         console::say(
+            &rt,
             b"usage: desk FILE.ubf SEED RATE\n\
               SEED is a number; of 100,000 bytes on the line about RATE are disturbed, 0 to 100000\n",
         );
         return;
     }
-    let mut path = io::buffer();
-    let length = os::arg(1, &mut path);
-    load_file(octets::part(&path, 0, length), wish);
+    let mut path = console::path_room();
+    let length = rt.arg(1, &mut path).unwrap_or(0);
+    load_file(&rt, &rt.stderr(), octets::part(&path, 0, length), wish);
 }
 
 // Reads the whole file, if it is not too large, and loads it.
-fn load_file(path: &[u8], wish: Wish) {
+fn load_file(rt: &(impl Files + Print), err: &impl Print, path: &[u8], wish: Wish) {
     let mut file = console::file_room();
-    match console::read_whole(path, &mut file) {
-        Got::Count(n) => load_blocks(octets::part(&file, 0, n), wish),
+    match console::read_whole(rt, err, path, &mut file) {
+        Got::Count(n) => load_blocks(rt, octets::part(&file, 0, n), wish),
         Got::Failed => (),
         Got::Larger => {
-            console::text(path);
-            console::say(b": larger than 524,288 bytes, the largest file that is taken\n");
+            console::text(rt, path);
+            console::say(
+                rt,
+                b": larger than 524,288 bytes, the largest file that is taken\n",
+            );
         }
     }
 }
 
 // A file with a faulty block is not begun with.
-fn load_blocks(file: &[u8], wish: Wish) {
+fn load_blocks(rt: &impl Print, file: &[u8], wish: Wish) {
     match ubf::block_at(file, file.len()) {
-        Nth::Past { count } => load_all(file, count, wish),
+        Nth::Past { count } => load_all(rt, file, count, wish),
         Nth::Refused {
             number,
             place,
             count,
-        } => verdict::refused(number, place),
+        } => verdict::refused(rt, number, place),
         Nth::Found { block, place } => (),
     }
 }
@@ -76,13 +80,13 @@ fn erased() -> [u8; 262144] {
 }
 
 // Each block by a session of its own, over one flash.
-fn load_all(file: &[u8], count: usize, wish: Wish) {
+fn load_all(rt: &impl Print, file: &[u8], count: usize, wish: Wish) {
     let mut flash = erased();
-    let walk = load_each(file, count, wish, &mut flash);
-    verdict::sum_up(walk.done, count, walk.right);
+    let walk = load_each(rt, file, count, wish, &mut flash);
+    verdict::sum_up(rt, walk.done, count, walk.right);
 }
 
-fn load_each(file: &[u8], count: usize, wish: Wish, flash: &mut [u8]) -> Walk {
+fn load_each(rt: &impl Print, file: &[u8], count: usize, wish: Wish, flash: &mut [u8]) -> Walk {
     let mut walk = Walk {
         done: 0,
         right: true,
@@ -92,18 +96,25 @@ fn load_each(file: &[u8], count: usize, wish: Wish, flash: &mut [u8]) -> Walk {
     };
     let mut n = 0;
     while n < count && walk.more {
-        walk = load_nth(walk, file, n, wish.rate, flash);
+        walk = load_nth(rt, walk, file, n, wish.rate, flash);
         n += 1;
     }
     walk
 }
 
-fn load_nth(walk: Walk, file: &[u8], n: usize, rate: u64, flash: &mut [u8]) -> Walk {
+fn load_nth(
+    rt: &impl Print,
+    walk: Walk,
+    file: &[u8],
+    n: usize,
+    rate: u64,
+    flash: &mut [u8],
+) -> Walk {
     match ubf::block_at(file, n) {
         Nth::Found { block, place } => {
             let kind = block.kind;
-            show_block(n, kind, block.extent, block.start);
-            load_block(walk, block, octets::behind(file, place), rate, flash)
+            show_block(rt, n, kind, block.extent, block.start);
+            load_block(rt, walk, block, octets::behind(file, place), rate, flash)
         }
         Nth::Past { count } => walk,
         Nth::Refused {
@@ -115,18 +126,21 @@ fn load_nth(walk: Walk, file: &[u8], n: usize, rate: u64, flash: &mut [u8]) -> W
 }
 
 // People count from 1.
-fn show_block(n: usize, kind: Kind, extent: u32, start: u32) {
-    voice::tell(
-        STDOUT_FILENO,
-        b"block \0: ",
-        &[std::num::wrapping_add_usize(n, 1)],
-    );
-    console::placed(kind, extent, start);
-    console::say(b"\n");
+fn show_block(rt: &impl Print, n: usize, kind: Kind, extent: u32, start: u32) {
+    voice::tell(rt, b"block \0: ", &[std::num::wrapping_add_usize(n, 1)]);
+    console::placed(rt, kind, extent, start);
+    console::say(rt, b"\n");
 }
 
 // Loads a block, and judges the flash against the image and against a copy from before. A block that is not done is the last one.
-fn load_block(walk: Walk, block: Block, bytes: &[u8], rate: u64, flash: &mut [u8]) -> Walk {
+fn load_block(
+    rt: &impl Print,
+    walk: Walk,
+    block: Block,
+    bytes: &[u8],
+    rate: u64,
+    flash: &mut [u8],
+) -> Walk {
     let mut before = console::flash_room();
     octets::copy(flash, &mut before, 0);
     let image = ubf::image(bytes, block);
@@ -136,6 +150,7 @@ fn load_block(walk: Walk, block: Block, bytes: &[u8], rate: u64, flash: &mut [u8
     let after = met.post;
     let log = met.log;
     let is_right = verdict::judge(
+        rt,
         log,
         met.counts,
         kinds::base_of(kind) as usize,

@@ -2,12 +2,12 @@
 use crate::ending::show_ending;
 use console::voice;
 use lanes::Lane;
-use libc::STDOUT_FILENO;
 use meeting::{Counts, Log};
 
 // Prints how the load ended, what befell the bytes, and how the flash is. Answers whether the range holds the image and all else is
 // as it was before.
 pub fn judge(
+    rt: &impl Print,
     log: Log,
     counts: Counts,
     base: usize,
@@ -16,10 +16,10 @@ pub fn judge(
     before: &[u8],
 ) -> bool {
     let ending = log.ending;
-    console::say(b"  ");
-    show_ending(STDOUT_FILENO, ending, log.packets, counts.resent);
-    show_lane(b"  to the board: ", log.out, counts.board_dropped);
-    show_lane(b"  to the host: ", log.back, counts.host_dropped);
+    console::say(rt, b"  ");
+    show_ending(rt, ending, log.packets, counts.resent);
+    show_lane(rt, b"  to the board: ", log.out, counts.board_dropped);
+    show_lane(rt, b"  to the host: ", log.back, counts.host_dropped);
     let holds = octets::same(octets::part(flash, base, image.len()), image);
     let untouched = is_untouched(
         base,
@@ -27,10 +27,10 @@ pub fn judge(
         flash,
         before,
     );
-    show_flash(holds, untouched);
+    show_flash(rt, holds, untouched);
     let is_right = holds && untouched;
     if ending.over && ending.number == 0 && !is_right {
-        show_wrong(log.forged);
+        show_wrong(rt, log.forged);
     }
     is_right
 }
@@ -44,58 +44,54 @@ fn is_untouched(base: usize, behind: usize, flash: &[u8], before: &[u8]) -> bool
         )
 }
 
-fn show_wrong(forged: usize) {
+fn show_wrong(rt: &impl Print, forged: usize) {
     voice::tell(
-        STDOUT_FILENO,
+        rt,
         b"  WRONG: done, but the flash is not as it should be; packets that noise has forged: \0\n",
         &[forged],
     );
 }
 
 // A file with a faulty block.
-pub fn refused(number: u8, place: usize) {
-    console::refusal(number);
+pub fn refused(rt: &impl Print, number: u8, place: usize) {
+    console::refusal(rt, number);
     voice::tell(
-        STDOUT_FILENO,
+        rt,
         b", at byte \0 of the file; nothing is loaded\n",
         &[place],
     );
 }
 
 // The last words on a file.
-pub fn sum_up(done: usize, count: usize, is_right: bool) {
-    voice::tell(
-        STDOUT_FILENO,
-        b"verdict: \0 of \0 blocks done, ",
-        &[done, count],
-    );
+pub fn sum_up(rt: &impl Print, done: usize, count: usize, is_right: bool) {
+    voice::tell(rt, b"verdict: \0 of \0 blocks done, ", &[done, count]);
     if !is_right {
-        console::say(b"FLASH WRONG\n");
+        console::say(rt, b"FLASH WRONG\n");
     } else if done == count {
-        console::say(b"flash right\n");
+        console::say(rt, b"flash right\n");
     } else {
-        console::say(b"the file is not loaded\n");
+        console::say(rt, b"the file is not loaded\n");
     }
 }
 
-fn show_lane(words: &[u8], lane: Lane, dropped: usize) {
-    console::say(words);
+fn show_lane(rt: &impl Print, words: &[u8], lane: Lane, dropped: usize) {
+    console::say(rt, words);
     voice::tell(
-        STDOUT_FILENO,
+        rt,
         b"\0 bytes sent, \0 hit, \0 inserted, \0 lost; \0 frames dropped\n",
         &[lane.sent, lane.hit, lane.inserted, lane.lost, dropped],
     );
 }
 
-fn show_flash(holds: bool, untouched: bool) {
+fn show_flash(rt: &impl Print, holds: bool, untouched: bool) {
     if holds {
-        console::say(b"  the range holds the image; ");
+        console::say(rt, b"  the range holds the image; ");
     } else {
-        console::say(b"  the range does not hold the image; ");
+        console::say(rt, b"  the range does not hold the image; ");
     }
     if untouched {
-        console::say(b"all else is untouched\n");
+        console::say(rt, b"all else is untouched\n");
     } else {
-        console::say(b"ALL ELSE IS NOT UNTOUCHED\n");
+        console::say(rt, b"ALL ELSE IS NOT UNTOUCHED\n");
     }
 }
