@@ -16,7 +16,7 @@ use Rattle.module.specs.SessionLaws.{takes_facts, open_takes, written_open}
 use Rattle.module_promises.specs.Runs.{Given, Exchange, exchange, next_of, after_of, run_of, AllBytes, Says, payload_of}
 use Rattle.module_promises.proofs.Said.{AcceptsPacket, Turn, quiet, declares, writes, again, turn_of}
 use Rattle.module_promises.proofs.Track.{Pieced, last_ends}
-use Rattle.module_promises.proofs.Success.{notice_ends, last_notices, run_pieced}
+use Rattle.module_promises.proofs.Success.{notice_ends, last_notices, run_pieced_to}
 use Rattle.module_promises.proofs.Arises.{step_arises, reached_arises}
 use Rattle.module_promises.specs.Promises.{Opening, opened_by, joined, LastPacket, length_in, sum_of, HasSize, Counted, CountIsLength}
 use Rattle.module_model.specs.declared.phases.Pieces.{Pieces}
@@ -113,7 +113,7 @@ count_is_length o gs g all bytes = (along, at_last)
         → Counted (written_of (next_of s g)) (history_of o gs g) k
     along k one short says =
         let a = says_accepts s g bytes k short says in
-        counted o gs g all bytes k short a.p a.packet (run_pieced o gs g all bytes a.p k a.packet)
+        counted o gs g all bytes k short a.p a.packet (run_pieced_to o gs g all bytes a.p k a.packet)
 
     at_last : (total : ℕ) → LastPacket (exchange s g) total
         → (c : Counted (written_of (next_of s g)) (history_of o gs g) total) × (sum_of c.sizes ≡ length_in c.parameters)
@@ -121,6 +121,6 @@ count_is_length o gs g all bytes = (along, at_last)
         let e = notice_ends s g bytes (last_notices s g bytes total last) in
         let p = e.p in
         let a = e.packet in
-        let h = run_pieced o gs g all bytes p (total_of p) a in
+        let h = run_pieced_to o gs g all bytes p (total_of p) a in
         let is : total ≡ total_of p = sym last.total_field ∙ a.belongs.total_is in
         rw is (counted o gs g all bytes (total_of p) a.belongs.cut.total_most p a h, whole o gs g all bytes p a h)

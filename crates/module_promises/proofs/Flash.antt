@@ -94,7 +94,7 @@ pub success_holds : SuccessHolds
 success_holds o gs g all bytes says =
     let s = after_of (opened_by o) gs in
     let e = notice_ends s g bytes says in
-    let h = run_pieced o gs g all bytes e.p (total_of e.p) e.packet in
+    let h = run_pieced o gs g all bytes e in
     record {
       parameters = h.track.parameters;
       since = h.track.since;

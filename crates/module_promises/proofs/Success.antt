@@ -46,14 +46,20 @@ last_notices s g bytes total last = go (turn_of s g bytes)
     go (again p number a behind same put) = notices p number a
 
 -- At the end of a run from an opening, a step that acknowledges a packet leaves a history that has accepted all packets up to it.
-pub run_pieced : (o : Opening) (gs : List Given) (g : Given) → AllBytes gs → Bytes g.payload → (p : Pieces) (number : ℕ)
+pub run_pieced_to : (o : Opening) (gs : List Given) (g : Given) → AllBytes gs → Bytes g.payload → (p : Pieces) (number : ℕ)
     → AcceptsPacket (after_of (opened_by o) gs) g p number
     → Pieced (run_of (opened_by o) gs ++ (exchange (after_of (opened_by o) gs) g ∷ [])) p number
-run_pieced o gs g all bytes p number a =
+run_pieced_to o gs g all bytes p number a =
     let s = after_of (opened_by o) gs in
     let history = run_of (opened_by o) gs in
     accepted_pieced (history ++ (exchange s g ∷ [])) (next_of s g).phase p number a.after
     (tracked_more history s g bytes (reached_tracked o gs all))
+
+-- So does the step that ends it: such a step leaves a history that has accepted all packets.
+pub run_pieced : (o : Opening) (gs : List Given) (g : Given) → AllBytes gs → Bytes g.payload
+    → (e : Ends (after_of (opened_by o) gs) g)
+    → Pieced (run_of (opened_by o) gs ++ (exchange (after_of (opened_by o) gs) g ∷ [])) e.p (total_of e.p)
+run_pieced o gs g all bytes e = run_pieced_to o gs g all bytes e.p (total_of e.p) e.packet
 
 pub success_exactly : SuccessExactly
 success_exactly o gs g all bytes = (only, λ total last accepted. last_notices s g bytes total last)
@@ -65,7 +71,7 @@ success_exactly o gs g all bytes = (only, λ total last accepted. last_notices s
     only says =
         let e = notice_ends s g bytes says in
         let a = e.packet in
-        let h = (run_pieced o gs g all bytes e.p (total_of e.p) a).track in
+        let h = (run_pieced o gs g all bytes e).track in
         record {
           total = total_of e.p;
           last = record {
