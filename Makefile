@@ -9,6 +9,7 @@ CFLAGS = -std=gnu11 -Wall -Wextra -Werror -O2
 
 demo: loader
 	@tools/prove pack
+	@tools/build pack
 	@tools/demo
 
 loader:

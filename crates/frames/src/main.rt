@@ -3,6 +3,7 @@
 
 use console::voice;
 use reader::{Heard, Reader, Stepped};
+use std::io;
 use std::io::Read;
 
 // The reader and the count of frames, as they go from one piece of input to the next.
@@ -63,7 +64,7 @@ fn ended(listening: Listening) -> Listening {
 fn take_bytes(rt: &impl Print, listening: Listening, bytes: &[u8]) -> Listening {
     let mut next = listening;
     let mut i = 0;
-    while i < bytes.len() {
+    while i < bytes.len() && next.more {
         next = take_byte(rt, next, bytes[i]);
         i += 1;
     }
@@ -74,44 +75,47 @@ fn take_byte(rt: &impl Print, listening: Listening, byte: u8) -> Listening {
     let before = listening.reader;
     let stepped = before.step(byte);
     let reader = stepped.reader;
-    let total = show(rt, stepped, listening.total);
-    Listening {
-        reader,
-        total,
-        more: true,
+    match show(rt, stepped, listening.total) {
+        Ok(total) => Listening {
+            reader,
+            total,
+            more: true,
+        },
+        // Nobody reads what is printed any more.
+        Err(_) => ended(listening),
     }
 }
 
 // Prints the frame that a step handed out, if there is one, and counts it.
-fn show(rt: &impl Print, stepped: Stepped, total: u64) -> u64 {
+fn show(rt: &impl Print, stepped: Stepped, total: u64) -> io::Result<u64> {
     let heard = stepped.heard;
     match heard {
-        Heard::Nothing => total,
-        Heard::Dropped => total,
+        Heard::Nothing => Ok(total),
+        Heard::Dropped => Ok(total),
         Heard::Frame { command, count } => {
             let reader = stepped.reader;
             let store = reader.store;
-            show_frame(rt, command, reader::payload(&store, count));
-            std::num::wrapping_add_u64(total, 1)
+            show_frame(rt, command, reader::payload(&store, count))?;
+            Ok(std::num::wrapping_add_u64(total, 1))
         }
     }
 }
 
-fn show_frame(rt: &impl Print, command: u8, payload: &[u8]) {
-    show_bytes(rt, &[command]);
-    console::say(rt, b" ");
-    console::number(rt, payload.len());
-    console::say(rt, b" ");
+fn show_frame(rt: &impl Print, command: u8, payload: &[u8]) -> io::Result<()> {
+    show_bytes(rt, &[command])?;
+    rt.write_all(b" ")?;
+    rt.print(payload.len())?;
+    rt.write_all(b" ")?;
     if payload.len() == 0 {
-        console::say(rt, b"-");
+        rt.write_all(b"-")?;
     } else {
-        show_bytes(rt, payload);
+        show_bytes(rt, payload)?;
     }
-    console::say(rt, b"\n");
+    rt.write_all(b"\n")
 }
 
-fn show_bytes(rt: &impl Print, bytes: &[u8]) {
+fn show_bytes(rt: &impl Print, bytes: &[u8]) -> io::Result<()> {
     let mut digits = [0u8; 2060];
     let n = hex_digits::show(bytes, &mut digits);
-    console::say(rt, &digits[..n]);
+    rt.write_all(&digits[..n])
 }
