@@ -1,7 +1,7 @@
 // Runs the bench examples of document 01 that are run and not proved.
 #![tactic(auto)]
 
-use refusals::Written;
+use refusals::Refusal;
 
 fn main(rt: HostRuntime) {
     console::say(&rt, b"bench\n");
@@ -19,11 +19,11 @@ fn try_write(rt: &impl Print, payload: &[u8], out: &mut [u8]) {
     console::number(rt, out.len());
     console::say(rt, b": ");
     match wire::write(0x05, payload, out) {
-        Written::Count(count) => {
+        Ok(count) => {
             console::number(rt, count);
             console::say(rt, b" bytes written\n");
         }
-        Written::Refused(number) => {
+        Err(number) => {
             console::refusal(rt, number);
             console::say(rt, b"\n");
         }

@@ -6,7 +6,7 @@ ghost use Rattle.wire.specs.Write.{write_of};
 ghost use Rattle.commands.specs.Commands.{rate_frame, parameters_frame, packet_frame, restart_frame};
 
 use kinds::Kind;
-use refusals::Written;
+use refusals::Refusal;
 
 pub const RATE: u8 = 0x01;
 
@@ -37,14 +37,14 @@ pub const START_TEXT: [u8; 12] = *b"$PCAS20*03\r\n";
 pub const START_ANSWER: [u8; 14] = *b"$PCAS30,3*1D\r\n";
 
 // Writes 0x01: the rate.
-pub fn write_rate(rate: u8, out: &mut [u8]) -> Written
+pub fn write_rate(rate: u8, out: &mut [u8]) -> Result<usize, Refusal>
     ensures { record { answer = result; output = out.new } ≡ write_of (rate_frame rate) out.old }
 {
     wire::write(RATE, &[rate], out)
 }
 
 // Writes 0x02: type, length and token of an image.
-pub fn write_parameters(kind: Kind, extent: usize, out: &mut [u8]) -> Written
+pub fn write_parameters(kind: Kind, extent: usize, out: &mut [u8]) -> Result<usize, Refusal>
     ensures { record { answer = result; output = out.new } ≡ write_of (parameters_frame kind extent) out.old }
 {
     let mut payload = [0u8; 10];
@@ -55,14 +55,14 @@ pub fn write_parameters(kind: Kind, extent: usize, out: &mut [u8]) -> Written
 }
 
 // Writes 0x05: Total, PkNo, PkSize and the piece, which is a part of the image.
-pub fn write_packet(image: &[u8], size: usize, number: usize, out: &mut [u8]) -> Written
+pub fn write_packet(image: &[u8], size: usize, number: usize, out: &mut [u8]) -> Result<usize, Refusal>
     ensures { record { answer = result; output = out.new }
         ≡ write_of (packet_frame image.now size number) out.old }
 {
     let piece = pieces::piece(image, size, number);
     let n = piece.len();
     if LARGEST_PACKET < n {
-        return Written::Refused(refusals::PAYLOAD_TOO_LONG);
+        return Err(Refusal::PayloadTooLong);
     }
     let mut payload = [0u8; wire::PAYLOAD_MOST];
     octets::put_two(
@@ -77,7 +77,7 @@ pub fn write_packet(image: &[u8], size: usize, number: usize, out: &mut [u8]) ->
 }
 
 // Writes 0x06, which carries nothing.
-pub fn write_restart(out: &mut [u8]) -> Written
+pub fn write_restart(out: &mut [u8]) -> Result<usize, Refusal>
     ensures { record { answer = result; output = out.new } ≡ write_of restart_frame out.old }
 {
     wire::write(RESTART, &[], out)

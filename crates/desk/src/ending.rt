@@ -1,4 +1,5 @@
 // How a load ended, in words.
+use refusals::Refusal;
 use console::voice;
 use posts::Ending;
 
@@ -21,8 +22,8 @@ pub fn show_ending(to: &impl Print, ending: Ending, packets: usize, resent: usiz
 
 fn show_passed(to: &impl Print, number: u8, passed: u8) {
     match number {
-        refusals::MODULE_REFUSED => show_byte(to, b", ACK ", passed),
-        refusals::BAD_NOTICE => show_byte(to, b", State ", passed),
+        Refusal::ModuleRefused => show_byte(to, b", ACK ", passed),
+        Refusal::BadNotice => show_byte(to, b", State ", passed),
         _ => (),
     }
 }

@@ -1,13 +1,11 @@
 -- Answers as C is given them: the number and the values of each case, as they stand with its enum, beside one another.
-use Rattle.std.specs.Prelude.{ℕ, Bool, true, false, List, ◌≡◌, refl, length}
+use Rattle.kinds.specs.declared.Kind.{Kind}
+use Rattle.refusals.specs.declared.Refusal.{Refusal}
+use Rattle.std.specs.Prelude.{ℕ, Bool, true, false, List, ◌≡◌, refl, length, Err, None, Ok, Option, Result, Some}
 use Rattle.refusals.specs.Written.{Out, number_in, count_in}
 use Rattle.kinds.specs.Kinds.{base_of}
-use Rattle.kinds.specs.declared.Known.{Known}
-use Rattle.kinds.specs.declared.Known.TheVariants.{Is, Unknown}
 use Rattle.ubf_model.specs.Answers.{Told, block_told, none_told, found_told, nth_told}
 use Rattle.ubf_model.specs.declared.block.Block.{Block}
-use Rattle.ubf_model.specs.declared.block.Found.{Found}
-use Rattle.ubf_model.specs.declared.block.Found.TheVariants.{Whole, Refused}
 use Rattle.ubf_model.specs.declared.walk.Nth.{Nth}
 use Rattle.exports.specs.declared.files.Answered.{Answered}
 
@@ -33,9 +31,9 @@ pub record AddressFlat : Type 0 where
   pub known : Bool
   pub address : ℕ
 
-abbrev pub address_flat : Known → AddressFlat
-address_flat (Is kind) = record { known = true; address = base_of kind }
-address_flat Unknown = record { known = false; address = 0 }
+abbrev pub address_flat : Option Kind → AddressFlat
+address_flat (Some kind) = record { known = true; address = base_of kind }
+address_flat None = record { known = false; address = 0 }
 
 -- What is told of blocks, as the struct that the calls fill.
 abbrev pub flat_of : Told → Answered
@@ -55,14 +53,14 @@ with_block b place = flat_of (block_told b place)
 abbrev pub without_block : ℕ → ℕ → ℕ → Answered
 without_block number place count = flat_of (none_told number place count)
 
-abbrev pub found_flat : Found → Answered
+abbrev pub found_flat : Result Block Refusal → Answered
 found_flat f = flat_of (found_told f)
 
 abbrev pub nth_flat : Nth → Answered
 nth_flat n = flat_of (nth_told n)
 
 -- A block at the front has no other place and no count beside it.
-pub found_nowhere : (f : Found) → record {
+pub found_nowhere : (f : Result Block Refusal) → record {
   answer = (found_flat f).answer;
   kind = (found_flat f).kind;
   extent = (found_flat f).extent;
@@ -71,5 +69,5 @@ pub found_nowhere : (f : Found) → record {
   place = 0;
   count = 0;
 } ≡ found_flat f
-found_nowhere (Whole b) = refl
-found_nowhere (Refused number) = refl
+found_nowhere (Ok b) = refl
+found_nowhere (Err number) = refl

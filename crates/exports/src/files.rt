@@ -8,8 +8,8 @@ ghost use Rattle.ubf_model.specs.Walk.{block_at};
 ghost use Rattle.exports.specs.Flat.{written_flat, stretch_of, with_block, without_block, found_flat, nth_flat, address_flat};
 
 use crate::frames::{count_of, number_of};
-use kinds::Known;
-use ubf::{Block, Found, Nth, Numbers};
+use refusals::Refusal;
+use ubf::{Block, Nth, Numbers};
 use ubf_model::{
     DATE_PLACE, DATE_SIZE, MODEL_PLACE, MODEL_SIZE, NAME_PLACE, NAME_SIZE, VERSION_PLACE,
     VERSION_SIZE,
@@ -34,10 +34,10 @@ fn numbers_of(nth: Nth) -> Answered
         Nth::Found { block, place } => with_block(block, place),
         Nth::Past { count } => without_block(flat::PAST, 0, count),
         Nth::Refused {
-            number,
+            refusal,
             place,
             count,
-        } => without_block(number, place, count),
+        } => without_block(refusal.number(), place, count),
     }
 }
 
@@ -79,11 +79,11 @@ pub extern "C" fn zrn_type_address(kind: u16, address: &mut u32) -> bool
     *address = 0;
     let known = kinds::kind_of(kind);
     match known {
-        Known::Is(own) => {
+        Some(own) => {
             *address = kinds::base_of(own);
             true
         }
-        Known::Unknown => false,
+        None => false,
     }
 }
 
@@ -113,12 +113,12 @@ pub extern "C" fn zrn_ubf_read(
     found.answer
 }
 
-fn numbers_in(found: Found) -> Answered
+fn numbers_in(found: Result<Block, Refusal>) -> Answered
     ensures { result ≡ found_flat found }
 {
     match found {
-        Found::Whole(block) => with_block(block, 0),
-        Found::Refused(number) => without_block(number, 0, 0),
+        Ok(block) => with_block(block, 0),
+        Err(refusal) => without_block(refusal.number(), 0, 0),
     }
 }
 

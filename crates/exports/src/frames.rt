@@ -7,7 +7,7 @@ ghost use Rattle.wire.specs.Frame.{frame, is_content};
 ghost use Rattle.wire.specs.Write.{write_of};
 ghost use Rattle.exports.specs.Flat.{written_flat};
 
-use refusals::Written;
+use refusals::Refusal;
 
 #[unsafe(no_mangle)]
 pub extern "C" fn zrn_words(number: u8, out: &mut [u8]) -> usize
@@ -53,20 +53,20 @@ pub extern "C" fn zrn_escape_original(byte: u8) -> u8
 }
 
 // What a call that writes has answered, by number.
-pub fn number_of(written: Written) -> u8
+pub fn number_of(written: Result<usize, Refusal>) -> u8
     ensures { result ≡ number_in written }
 {
     match written {
-        Written::Count(n) => flat::WRITTEN,
-        Written::Refused(number) => number,
+        Ok(_) => flat::WRITTEN,
+        Err(refusal) => refusal.number(),
     }
 }
 
-pub fn count_of(written: Written) -> usize
+pub fn count_of(written: Result<usize, Refusal>) -> usize
     ensures { result ≡ count_in written }
 {
     match written {
-        Written::Count(n) => n,
-        Written::Refused(number) => 0,
+        Ok(n) => n,
+        Err(_) => 0,
     }
 }

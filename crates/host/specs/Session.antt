@@ -1,9 +1,9 @@
 -- The host's session, and which numbers of it can arise.
-use Rattle.std.specs.Prelude.{ℕ, Bool, cond}
+use Rattle.host_model.specs.declared.plan.Rate.{Rate}
+use Rattle.std.specs.Prelude.{ℕ, Bool, cond, Option}
 use Rattle.host_model.specs.Views.{phase_progress, phase_rate, phase_repeats}
 use Rattle.host_model.specs.Waits.{phase_arises}
 use Rattle.host_model.specs.declared.views.Progress.{Progress}
-use Rattle.host_model.specs.declared.views.LineRate.{LineRate}
 use Rattle.host_model.specs.declared.waits.Phase.{Phase}
 use Rattle.host_model.specs.declared.waits.Phase.TheVariants.{Ended}
 use Rattle.host_model.specs.declared.events.Answer.{Answer}
@@ -28,7 +28,7 @@ taken_phase s = cond (arises s) s.phase Ended
 abbrev pub session_progress : Session → Progress
 session_progress s = phase_progress (taken_phase s) s.image
 
-abbrev pub session_rate : Session → LineRate
+abbrev pub session_rate : Session → Option Rate
 session_rate s = phase_rate (taken_phase s)
 
 abbrev pub session_repeats : Session → ℕ

@@ -1,11 +1,9 @@
 -- What an opening and a step of the host answer and leave: the session, the answer, the output.
-use Rattle.std.specs.Prelude.{ℕ, cond, List, eqb, ltb, length}
+use Rattle.std.specs.Prelude.{ℕ, cond, List, eqb, ltb, length, None, Option, Some}
 use Rattle.octets.specs.Octets.{over}
 use Rattle.refusals.specs.Refusals.{no_room, wrong_length, wrong_type}
 use Rattle.kinds.specs.Kinds.{kind_of}
 use Rattle.kinds.specs.declared.Kind.{Kind}
-use Rattle.kinds.specs.declared.Known.{Known}
-use Rattle.kinds.specs.declared.Known.TheVariants.{Is, Unknown}
 use Rattle.commands.specs.Commands.{restart_frame}
 use Rattle.host_model.specs.Views.{failed_phase}
 use Rattle.host_model.specs.Waits.{wait}
@@ -111,9 +109,9 @@ plan_of kind w = record { kind = kind; first = w.first; wish = w.wish; start = w
 abbrev pub plan_opening : Plan → List ℕ → List ℕ → Left
 plan_opening plan image output = performs (ended_of (length image)) (plan_next plan (length image)) image output
 
-abbrev pub known_opening : Known → Wishes → List ℕ → List ℕ → Left
-known_opening (Is kind) w image output = plan_opening (plan_of kind w) image output
-known_opening Unknown w image output = left (stepped (ended_of (length image)) (Refused wrong_type)) output
+abbrev pub known_opening : Option Kind → Wishes → List ℕ → List ℕ → Left
+known_opening (Some kind) w image output = plan_opening (plan_of kind w) image output
+known_opening None w image output = left (stepped (ended_of (length image)) (Refused wrong_type)) output
 
 -- 6 for a type that is not known; else the first text or frame is sent.
 unfoldable pub opening_of : ℕ → Wishes → List ℕ → List ℕ → Left

@@ -1,5 +1,6 @@
 -- The laws of Step.
-use Rattle.std.specs.Prelude.{ℕ, ◌≤◌, ◌<◌, Bool, List, refl, ltb}
+use Rattle.refusals.specs.declared.Refusal.{Refusal}
+use Rattle.std.specs.Prelude.{ℕ, ◌≤◌, ◌<◌, Bool, List, refl, ltb, Err, Ok, Result}
 use Rattle.std.proofs.Math.Bool.{true, false, cond}
 use Rattle.std.proofs.lemmas.Bool.{false≢true}
 use Rattle.std.proofs.Math.Path.{◌≡◌, sym, ap}
@@ -9,8 +10,6 @@ use Rattle.octets.proofs.Choice.{cond_yes, cond_no, either_way}
 use Rattle.octets.specs.Octets.{over}
 use Rattle.refusals.specs.Refusals.{no_room, wrong_length}
 use Rattle.refusals.specs.Written.{Out, refused, written, bytes_written, number_in, count_in}
-use Rattle.refusals.specs.declared.Written.{Written}
-use Rattle.refusals.specs.declared.Written.TheVariants as writes
 use Rattle.host.specs.Session.{stepped, arises, taken_phase}
 use Rattle.host_model.specs.Waits.{wait_fits}
 use Rattle.host_model.specs.Messages.{sent_of}
@@ -25,10 +24,10 @@ use Rattle.host.specs.declared.session.Stepped.{Stepped}
 
 -- ---- a message sent from a session
 
-module _ (s : Session) (message output : List ℕ) (answer : Written) (after : List ℕ)
+module _ (s : Session) (message output : List ℕ) (answer : Result ℕ Refusal) (after : List ℕ)
     (sent : record { answer = answer; output = after } ≡ sent_of message output) where
   -- A counted message was sent, and the session is the next.
-  pub sends_counted : (next : ℕ → Stepped) (n : ℕ) → answer ≡ writes.Count n
+  pub sends_counted : (next : ℕ → Stepped) (n : ℕ) → answer ≡ Ok n
       → left (next n) after ≡ sends s (next (length message)) message output
   unfolding sent_of sends
   sends_counted next n told = go (ltb (length output) (length message)) sent
@@ -36,14 +35,13 @@ module _ (s : Session) (message output : List ℕ) (answer : Written) (after : L
       go : (t : Bool) → record { answer = answer; output = after } ≡ cond t (refused no_room output) (written message output)
           → left (next n) after ≡ cond t (left (stepped s (Refused no_room)) output) (left (next (length message)) (over message output))
       go true e =
-          let none : bytes_written ≡ no_room = ap number_in (sym told) ∙ ap (λ (o : Out). number_in o.answer) e in
-          absurd (omega (arith, none))
+          let other : ◌≡◌ {A = Result ℕ Refusal} (Ok n) (Err no_room) = sym told ∙ ap (λ (o : Out). o.answer) e in cc
       go false e =
           let count : n ≡ length message = ap count_in (sym told) ∙ ap (λ (o : Out). count_in o.answer) e in
           rw (count, ap (λ (o : Out). o.output) e)
 
   -- A refused one left all as it was.
-  pub sends_refused : (next : Stepped) (n : ℕ) → answer ≡ writes.Refused n
+  pub sends_refused : (next : Stepped) (n : Refusal) → answer ≡ Err n
       → left (stepped s (Refused n)) after ≡ sends s next message output
   unfolding sent_of sends
   sends_refused next n told = go (ltb (length output) (length message)) sent
@@ -51,12 +49,11 @@ module _ (s : Session) (message output : List ℕ) (answer : Written) (after : L
       go : (t : Bool) → record { answer = answer; output = after } ≡ cond t (refused no_room output) (written message output)
           → left (stepped s (Refused n)) after ≡ cond t (left (stepped s (Refused no_room)) output) (left next (over message output))
       go true e =
-          let number : n ≡ no_room = ap number_in (sym told) ∙ ap (λ (o : Out). number_in o.answer) e in
-          rw (number, ap (λ (o : Out). o.output) e)
+          let same : ◌≡◌ {A = Result ℕ Refusal} (Err n) (Err no_room) = sym told ∙ ap (λ (o : Out). o.answer) e in
+          let refusal : n ≡ no_room = cc in
+          rw (refusal, ap (λ (o : Out). o.output) e)
       go false e =
-          let same : writes.Refused n ≡ writes.Count (length message) = sym told ∙ ap (λ (o : Out). o.answer) e in
-          let z : ◌≡◌ {A = ℕ} 0 1 = cc in
-          absurd (omega (arith, z))
+          let other : ◌≡◌ {A = Result ℕ Refusal} (Err n) (Ok (length message)) = sym told ∙ ap (λ (o : Out). o.answer) e in cc
 
 -- ---- the ways of a step: 3, or by its phase
 

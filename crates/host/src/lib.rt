@@ -4,5 +4,5 @@
 mod messages;
 mod session;
 
-pub use host_model::{Answer, Event, LineRate, Phase, Progress, Wait};
+pub use host_model::{Answer, Event, Phase, Progress, Wait};
 pub use session::{Session, Stepped};

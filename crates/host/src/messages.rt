@@ -7,10 +7,10 @@ ghost use Rattle.host_model.specs.Small.{Small};
 
 use host_model::{Plan, Stage};
 use rates::rate_number;
-use refusals::Written;
+use refusals::Refusal;
 
 // The message of a stage.
-pub(crate) fn send(plan: Plan, stage: Stage, image: &[u8], out: &mut [u8]) -> Written
+pub(crate) fn send(plan: Plan, stage: Stage, image: &[u8], out: &mut [u8]) -> Result<usize, Refusal>
     requires { Small stage }
     ensures { record { answer = result; output = out.new }
         ≡ sent_of (message_of plan image.now stage) out.old }
@@ -28,19 +28,19 @@ pub(crate) fn send(plan: Plan, stage: Stage, image: &[u8], out: &mut [u8]) -> Wr
     }
 }
 
-pub(crate) fn send_restart(out: &mut [u8]) -> Written
+pub(crate) fn send_restart(out: &mut [u8]) -> Result<usize, Refusal>
     ensures { record { answer = result; output = out.new } ≡ sent_of (goes_out restart_frame) out.old }
 {
     commands::write_restart(out)
 }
 
-fn send_text(out: &mut [u8]) -> Written
+fn send_text(out: &mut [u8]) -> Result<usize, Refusal>
     ensures { record { answer = result; output = out.new } ≡ sent_of start_text out.old }
 {
     let text = &commands::START_TEXT;
     if out.len() < text.len() {
-        return Written::Refused(refusals::NO_ROOM);
+        return Err(Refusal::NoRoom);
     }
     octets::copy(text, out, 0);
-    Written::Count(text.len())
+    Ok(text.len())
 }

@@ -9,9 +9,9 @@ ghost use Rattle.host.specs.Session.{session, stepped, arises, taken_phase, sess
 ghost use Rattle.host.specs.Step.{left, ended_of, failed_of, performs, step_of, opening_of};
 
 use crate::messages::{send, send_restart};
-use host_model::{Answer, Event, LineRate, Next, Phase, Plan, Progress, Rate, Same, Start, Wait};
-use kinds::{Kind, Known};
-use refusals::Written;
+use host_model::{Answer, Event, Next, Phase, Plan, Progress, Rate, Same, Start, Wait};
+use kinds::Kind;
+use refusals::Refusal;
 
 // The length of the image at the opening, and how far the session is.
 #[derive(Clone, Copy)]
@@ -42,7 +42,7 @@ impl Session {
     {
         let known = kinds::kind_of(number);
         match known {
-            Known::Is(kind) => {
+            Some(kind) => {
                 let plan = Plan {
                     kind: kind,
                     first: first,
@@ -53,7 +53,7 @@ impl Session {
                 let next = waits::plan_next(plan, image.len());
                 over(image.len()).performs(next, image, out)
             }
-            Known::Unknown => over(image.len()).answers(Answer::Refused(refusals::WRONG_TYPE)),
+            None => over(image.len()).answers(Answer::Refused(Refusal::WrongType)),
         }
     }
 
@@ -64,7 +64,7 @@ impl Session {
             ≡ step_of self event bytes.now image.now out.old }
     {
         if image.len() != self.image {
-            return self.answers(Answer::Refused(refusals::WRONG_LENGTH));
+            return self.answers(Answer::Refused(Refusal::WrongLength));
         }
         let phase = self.taken();
         match phase {
@@ -93,13 +93,13 @@ impl Session {
     }
 
     // The rate that the line should have now.
-    pub fn line_rate(self) -> LineRate
+    pub fn line_rate(self) -> Option<Rate>
         ensures { result ≡ session_rate self }
     {
         let phase = self.taken();
         match phase {
-            Phase::Ended => LineRate::AsItWas,
-            Phase::EndedAt { kind, rate } => LineRate::At(rate),
+            Phase::Ended => None,
+            Phase::EndedAt { kind, rate } => Some(rate),
             Phase::Waiting(wait) => {
                 let stage = wait.stage;
                 waits::message_rate(stage, wait.repeats)
@@ -148,7 +148,7 @@ impl Session {
             Next::Waits(wait) => waiting(image.len(), wait).answers(Answer::Nothing),
             Next::Sends(wait) => self.sends(wait, image, out),
             Next::Ends(answer) => over(image.len()).answers(answer),
-            Next::Fails { number, passed } => self.fails(number, passed, image, out),
+            Next::Fails { refusal, passed } => self.fails(refusal, passed, image, out),
         }
     }
 
@@ -161,23 +161,23 @@ impl Session {
         let stage = wait.stage;
         let sent = send(plan, stage, image, out);
         match sent {
-            Written::Count(n) => waiting(image.len(), wait).answers(Answer::Sent(n)),
-            Written::Refused(number) => self.answers(Answer::Refused(number)),
+            Ok(n) => waiting(image.len(), wait).answers(Answer::Sent(n)),
+            Err(number) => self.answers(Answer::Refused(number)),
         }
     }
 
     // 21 and 22: the restart frame, and the session ends.
-    fn fails(self, number: u8, passed: u8, image: &[u8], out: &mut [u8]) -> Stepped
-        ensures { left result out.new ≡ performs self (Fails number passed) image.now out.old }
+    fn fails(self, refusal: Refusal, passed: u8, image: &[u8], out: &mut [u8]) -> Stepped
+        ensures { left result out.new ≡ performs self (Fails refusal passed) image.now out.old }
     {
         let sent = send_restart(out);
         match sent {
-            Written::Count(n) => self.failed(image.len()).answers(Answer::Failed {
-                number: number,
-                passed: passed,
+            Ok(n) => self.failed(image.len()).answers(Answer::Failed {
+                refusal,
+                passed,
                 count: n,
             }),
-            Written::Refused(none) => self.answers(Answer::Refused(none)),
+            Err(none) => self.answers(Answer::Refused(none)),
         }
     }
 
@@ -235,12 +235,12 @@ fn over(image: usize) -> Session
     }
 }
 
-fn over_with(image: usize, kind: Kind, line: LineRate) -> Session
+fn over_with(image: usize, kind: Kind, line: Option<Rate>) -> Session
     ensures { result ≡ session image (ended_at_rate kind line) }
 {
     match line {
-        LineRate::AsItWas => over(image),
-        LineRate::At(rate) => over_at(image, kind, rate),
+        None => over(image),
+        Some(rate) => over_at(image, kind, rate),
     }
 }
 

@@ -5,7 +5,7 @@
 //   o  opens: type, rate, wish, start, same             s  where the session stands
 //   p  the same, and the rate is accepted; not shown
 use host::{Event, Session};
-use refusals::Written;
+use refusals::Refusal;
 use spoken_frames::{Side, show_message, words_only};
 use spoken_host::{PLACES, show_answer, show_session};
 use stages::{Rate, Same, Start};
@@ -197,8 +197,8 @@ fn show_heard(rt: &impl Print, command: u8, payload: &[u8]) {
     let mut wire = [0u8; 64];
     let written = wire::write(command, payload, &mut wire);
     match written {
-        Written::Count(n) => show_message(rt, Side::Heard, PLACES, octets::part(&wire, 0, n)),
-        Written::Refused(number) => console::refusal(rt, number),
+        Ok(n) => show_message(rt, Side::Heard, PLACES, octets::part(&wire, 0, n)),
+        Err(number) => console::refusal(rt, number),
     }
 }
 

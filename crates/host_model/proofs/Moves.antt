@@ -32,7 +32,7 @@ FitsMove plan image Stay = Unit
 FitsMove plan image (Enter next) = stage_fits plan image next ≡ true
 FitsMove plan image (Await next) = stage_fits plan image next ≡ true
 FitsMove plan image Resend = Unit
-FitsMove plan image (Refuse number passed) = Unit
+FitsMove plan image (Refuse refusal passed) = Unit
 FitsMove plan image TooMany = Unit
 FitsMove plan image Finish = Unit
 
@@ -148,6 +148,6 @@ fits_small plan image Stay h = tt
 fits_small plan image (Enter next) h = stage_small plan image next h
 fits_small plan image (Await next) h = stage_small plan image next h
 fits_small plan image Resend h = tt
-fits_small plan image (Refuse number passed) h = tt
+fits_small plan image (Refuse refusal passed) h = tt
 fits_small plan image TooMany h = tt
 fits_small plan image Finish h = tt

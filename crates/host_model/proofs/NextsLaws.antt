@@ -64,7 +64,7 @@ move_small w Stay h m = tt
 move_small w (Enter _) h m = m
 move_small w (Await _) h m = tt
 move_small w Resend h m = resend_small w h
-move_small w (Refuse number passed) h m = tt
+move_small w (Refuse refusal passed) h m = tt
 move_small w TooMany h m = tt
 move_small w Finish h m = tt
 

@@ -1,5 +1,5 @@
 -- The laws of Waits: each test and the facts that it stands for.
-use Rattle.std.specs.Prelude.{ℕ, ◌≤◌, ◌<◌, true, false, List, ◌≡◌, refl, ltb, leb}
+use Rattle.std.specs.Prelude.{ℕ, ◌≤◌, ◌<◌, true, false, List, ◌≡◌, refl, ltb, leb, None, Option, Some}
 use Rattle.std.proofs.Math.Bool.{not-eq-not}
 use Rattle.std.proofs.Common.{arith, leb-true, le-leb, ltb-true, lt-ltb}
 use Rattle.octets.proofs.Choice.{both}
@@ -18,8 +18,6 @@ use Rattle.host_model.specs.declared.plan.Stage.{Stage}
 use Rattle.host_model.specs.declared.plan.Stage.TheVariants.{Text, Asking, Declaring, Sending, Noticing, Restarting}
 use Rattle.host_model.specs.declared.plan.Start.{Start}
 use Rattle.host_model.specs.declared.plan.Start.TheVariants.{WithText, AtOnce}
-use Rattle.host_model.specs.declared.views.LineRate.{LineRate}
-use Rattle.host_model.specs.declared.views.LineRate.TheVariants.{AsItWas, At}
 use Rattle.host_model.specs.declared.waits.Wait.{Wait}
 use Rattle.host_model.specs.declared.waits.Phase.{Phase}
 use Rattle.host_model.specs.declared.waits.Phase.TheVariants.{Ended, EndedAt, Waiting}
@@ -105,9 +103,9 @@ wait_line image w line h =
     fits_small w.plan image (line_move w.plan w.stage line) (fits_line w.plan image w.stage line)
 
 -- A load that fails in a phase that could arise leaves one that could.
-with_arises : (image : ℕ) (kind : Kind) (line : LineRate) → loadable kind image ≡ true → phase_arises image (ended_at_rate kind line) ≡ true
-with_arises image kind AsItWas h = refl
-with_arises image kind (At rate) h = h
+with_arises : (image : ℕ) (kind : Kind) (line : Option Rate) → loadable kind image ≡ true → phase_arises image (ended_at_rate kind line) ≡ true
+with_arises image kind None h = refl
+with_arises image kind (Some rate) h = h
 
 pub failed_arises : (image : ℕ) (phase : Phase) → phase_arises image phase ≡ true → phase_arises image (failed_phase phase) ≡ true
 failed_arises image Ended h = h

@@ -27,7 +27,7 @@ move_next w Stay = Stays
 move_next w (Enter next) = Sends (wait w.plan next 0 0)
 move_next w (Await next) = Waits (wait w.plan next 0 w.repeats)
 move_next w Resend = resend_next w
-move_next w (Refuse number passed) = Fails number passed
+move_next w (Refuse refusal passed) = Fails refusal passed
 move_next w TooMany = Ends (Refused wrong_pieces)
 move_next w Finish = Ends Done
 

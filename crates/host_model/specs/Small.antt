@@ -20,6 +20,6 @@ SmallMove Stay = Unit
 SmallMove (Enter next) = Small next
 SmallMove (Await next) = Small next
 SmallMove Resend = Unit
-SmallMove (Refuse number passed) = Unit
+SmallMove (Refuse refusal passed) = Unit
 SmallMove TooMany = Unit
 SmallMove Finish = Unit

@@ -9,4 +9,4 @@ SmallNext Stays = Unit
 SmallNext (Waits w) = Unit
 SmallNext (Sends w) = Small w.stage
 SmallNext (Ends answer) = Unit
-SmallNext (Fails number passed) = Unit
+SmallNext (Fails refusal passed) = Unit

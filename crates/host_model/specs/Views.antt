@@ -1,5 +1,6 @@
 -- What a caller reads from a session.
-use Rattle.std.specs.Prelude.{ℕ, ◌-◌, ◌%◌, cond, eqb}
+use Rattle.host_model.specs.declared.plan.Rate.{Rate}
+use Rattle.std.specs.Prelude.{ℕ, ◌-◌, ◌%◌, cond, eqb, None, Option, Some}
 use Rattle.kinds.specs.declared.Kind.{Kind}
 use Rattle.pieces.specs.Pieces.{count_of}
 use Rattle.host_model.specs.Stages.{number_of_rate}
@@ -8,8 +9,6 @@ use Rattle.host_model.specs.declared.plan.Stage.TheVariants.{Text, Asking, Decla
 use Rattle.host_model.specs.declared.waits.Phase.{Phase}
 use Rattle.host_model.specs.declared.waits.Phase.TheVariants.{Ended, EndedAt, Waiting}
 use Rattle.host_model.specs.declared.views.Progress.{Progress}
-use Rattle.host_model.specs.declared.views.LineRate.{LineRate}
-use Rattle.host_model.specs.declared.views.LineRate.TheVariants.{AsItWas, At}
 
 abbrev pub progress_of : ℕ → ℕ → Progress
 progress_of done total = record { accepted = done; total = total }
@@ -31,33 +30,33 @@ phase_progress (Waiting w) image = stage_progress w.stage image
 -- The rate that the line should have: at it the message goes out that was resent so often, and its answer is heard. From the parameters on
 -- it is the agreed one. A module that agrees to a rate has it from then on, and its answer may be lost: so of the repeats of a request for
 -- a rate every other one, the first among them, goes out at the rate asked for.
-abbrev pub message_rate : Stage → ℕ → LineRate
-message_rate Text repeats = AsItWas
-message_rate (Asking rate) repeats = cond (eqb (repeats % 2) 1) (At rate) AsItWas
-message_rate (Declaring rate) repeats = At rate
-message_rate (Sending rate size number) repeats = At rate
-message_rate (Noticing rate size) repeats = At rate
-message_rate (Restarting rate size) repeats = At rate
+abbrev pub message_rate : Stage → ℕ → Option Rate
+message_rate Text repeats = None
+message_rate (Asking rate) repeats = cond (eqb (repeats % 2) 1) (Some rate) None
+message_rate (Declaring rate) repeats = Some rate
+message_rate (Sending rate size number) repeats = Some rate
+message_rate (Noticing rate size) repeats = Some rate
+message_rate (Restarting rate size) repeats = Some rate
 
 -- The same of a message that was not resent.
-abbrev pub stage_rate : Stage → LineRate
+abbrev pub stage_rate : Stage → Option Rate
 stage_rate stage = message_rate stage 0
 
-abbrev pub phase_rate : Phase → LineRate
-phase_rate Ended = AsItWas
-phase_rate (EndedAt kind rate) = At rate
+abbrev pub phase_rate : Phase → Option Rate
+phase_rate Ended = None
+phase_rate (EndedAt kind rate) = Some rate
 phase_rate (Waiting w) = message_rate w.stage w.repeats
 
 -- The rate of the line by its number, 0 as it was.
-abbrev pub line_number : LineRate → ℕ
-line_number AsItWas = 0
-line_number (At rate) = number_of_rate rate
+abbrev pub line_number : Option Rate → ℕ
+line_number None = 0
+line_number (Some rate) = number_of_rate rate
 
 -- How a load ends whose restart frame is sent with 21 or 22: that frame goes out at the rate that the line has, and the ended session
 -- keeps it.
-abbrev pub ended_at_rate : Kind → LineRate → Phase
-ended_at_rate kind AsItWas = Ended
-ended_at_rate kind (At rate) = EndedAt kind rate
+abbrev pub ended_at_rate : Kind → Option Rate → Phase
+ended_at_rate kind None = Ended
+ended_at_rate kind (Some rate) = EndedAt kind rate
 
 abbrev pub failed_phase : Phase → Phase
 failed_phase Ended = Ended

@@ -1,5 +1,6 @@
 // What an answer of the module does.
 use crate::plan::Stage;
+use refusals::Refusal;
 
 // Pass the event over; enter a stage with its message; await a stage without one; resend; give up with the module's byte passed on;
 // give up for the number of pieces; done.
@@ -9,7 +10,7 @@ pub enum Move {
     Enter(Stage),
     Await(Stage),
     Resend,
-    Refuse { number: u8, passed: u8 },
+    Refuse { refusal: Refusal, passed: u8 },
     TooMany,
     Finish,
 }

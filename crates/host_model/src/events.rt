@@ -1,4 +1,5 @@
 // What a session takes and what it answers.
+use refusals::Refusal;
 
 // A frame has arrived, with the first count bytes of the slice lent beside it as its payload; or a line of text, its CR LF with it, in
 // the first count bytes; or milliseconds have passed.
@@ -9,16 +10,16 @@ pub enum Event {
     Elapsed(u32),
 }
 
-// Nothing to send; so many bytes to send at the front of the output; the load is done; refused with a number; or the module refused
+// Nothing to send; so many bytes to send at the front of the output; the load is done; refused; or the module refused
 // (21) or reports a failure (22): its byte passed on, and so many bytes of the restart frame to send.
 #[derive(Clone, Copy)]
 pub enum Answer {
     Nothing,
     Sent(usize),
     Done,
-    Refused(u8),
+    Refused(Refusal),
     Failed {
-        number: u8,
+        refusal: Refusal,
         passed: u8,
         count: usize,
     },

@@ -12,5 +12,5 @@ pub use answers::Move;
 pub use events::{Answer, Event};
 pub use nexts::Next;
 pub use plan::{Plan, Rate, Same, Stage, Start};
-pub use views::{LineRate, Progress};
+pub use views::Progress;
 pub use waits::{Phase, Wait};

@@ -1,6 +1,7 @@
 // What follows an event or an opening, before anything is sent.
 use crate::events::Answer;
 use crate::waits::Wait;
+use refusals::Refusal;
 
 // All stays; this is awaited from now on; a message is sent and this awaited; the session ends with an answer; or it ends with the
 // restart frame and the module's byte passed on.
@@ -10,5 +11,5 @@ pub enum Next {
     Waits(Wait),
     Sends(Wait),
     Ends(Answer),
-    Fails { number: u8, passed: u8 },
+    Fails { refusal: Refusal, passed: u8 },
 }

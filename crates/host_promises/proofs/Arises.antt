@@ -1,12 +1,11 @@
 -- H3: every session that an opening and any run of steps leads to passes the test.
-use Rattle.std.specs.Prelude.{ℕ, ◌+◌, ◌-◌, ◌≤◌, ◌<◌, true, List, [], ◌∷◌, ◌≡◌, refl, eqb, ltb, length, take}
+use Rattle.kinds.specs.declared.Kind.{Kind}
+use Rattle.std.specs.Prelude.{ℕ, ◌+◌, ◌-◌, ◌≤◌, ◌<◌, true, List, [], ◌∷◌, ◌≡◌, refl, eqb, ltb, length, take, None, Option, Some}
 use Rattle.std.proofs.Common.{arith}
 use borrow.Author.Tests.{eqb-true, ltb-true}
 use Rattle.octets.proofs.Choice.{either_way}
 use Rattle.kinds.specs.Kinds.{kind_of, fits_file}
 use Rattle.kinds.specs.KindsLaws.{file_some}
-use Rattle.kinds.specs.declared.Known.{Known}
-use Rattle.kinds.specs.declared.Known.TheVariants.{Is, Unknown}
 use Rattle.host_model.specs.Stages.{stage_fits}
 use Rattle.host_model.specs.Views.{failed_phase}
 use Rattle.host_model.specs.Waits.{most_repeats, limit_of, loadable}
@@ -96,7 +95,7 @@ module _ (s : Session) (w : Wait) (image output : List ℕ) (a : arises s ≡ tr
   moved_arises (Enter next) h = enters_arises s w.plan next image output a f.fitting h
   moved_arises (Await next) h = stage_arises (length image) w.plan next 0 w.repeats f.fitting (limit_within next).0 f.few h
   moved_arises Resend h = resends_arises
-  moved_arises (Refuse number passed) h = sends_arises s _ _ output a (failure_arises (length image) s.phase own)
+  moved_arises (Refuse refusal passed) h = sends_arises s _ _ output a (failure_arises (length image) s.phase own)
   moved_arises TooMany h = ended_arises (length image)
   moved_arises Finish h = ended_arises (length image)
 
@@ -151,9 +150,9 @@ plan_arises plan image output =
     (first_fits plan (length image) plan.start refl))
     (λ _. ended_arises (length image))
 
-known_arises : (known : Known) (w : Wishes) (image output : List ℕ) → Arisen (known_opening known w image output)
-known_arises (Is kind) w image output = plan_arises (plan_of kind w) image output
-known_arises Unknown w image output = ended_arises (length image)
+known_arises : (known : Option Kind) (w : Wishes) (image output : List ℕ) → Arisen (known_opening known w image output)
+known_arises (Some kind) w image output = plan_arises (plan_of kind w) image output
+known_arises None w image output = ended_arises (length image)
 
 opening_arises : (number : ℕ) (w : Wishes) (image output : List ℕ) → Arisen (opening_of number w image output)
 unfolding opening_of

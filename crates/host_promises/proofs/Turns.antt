@@ -1,4 +1,5 @@
 -- H1 and H2: every step of a waiting host is one of the turns, and each turn with a reason comes where its reason holds.
+use Rattle.refusals.specs.declared.Refusal.{Refusal}
 use Prim.Native.Nat.{ℕ, zero, suc, ◌+◌, ◌^◌, ◌≤◌, ◌<◌}
 use Rattle.std.specs.Prelude.{true, ◌&&◌, List, [], ◌∷◌, ◌++◌, ◌≡◌, eqb, ltb, length, take, get_or}
 use Rattle.std.proofs.Math.Path.{refl, ap}
@@ -96,7 +97,7 @@ Reason w g Stay = Unit
 Reason w g (Enter next) = Follows w.plan (length g.image) g w.stage next
 Reason w g (Await next) = (rate : Rate) × (size : ℕ) × AllAccepted w g rate size × (next ≡ Noticing rate size)
 Reason w g Resend = Due w g
-Reason w g (Refuse number passed) = RefusedBy w g number passed
+Reason w g (Refuse refusal passed) = RefusedBy w g refusal passed
 Reason w g TooMany = NoPieces w g
 Reason w g Finish = Restarted w g
 
@@ -341,9 +342,9 @@ module _ (s : Session) (w : Wait) (g : Given) (told : s.phase ≡ Waiting w) whe
       awaits rate size all
       (ap (λ (n : Stage). left (stepped (waiting_of (length g.image) w.plan n 0 w.repeats) Nothing) g.output) next_is)
   move_turn Resend reason = due_turn reason
-  move_turn (Refuse number passed) reason =
+  move_turn (Refuse refusal passed) reason =
       message_turn (wire_of restart_frame) _ _
-      (restart number passed reason refl (ap (λ (p : Phase). session (length g.image) (failed_phase p)) told) refl)
+      (restart refusal passed reason refl (ap (λ (p : Phase). session (length g.image) (failed_phase p)) told) refl)
   move_turn TooMany reason = too_many reason refl
   move_turn Finish reason = finishes reason refl
 
@@ -406,11 +407,11 @@ lower_enters : (rate lower : Rate) → number_of_rate lower + 1 ≡ number_of_ra
 lower_enters rate lower h = lower_number rate ∙ ap lower_of (sym h) ∙ lower_next lower (omega (arith, (rate_some rate).1))
 
 -- Where ACK 01 and 02 are both passed on, either is.
-refused_ack : (number ack : ℕ) (good : Move) → 1 ≤ ack → ack ≤ 2
-    → by_ack ack good (Refuse number wrong_first) (Refuse number wrong_second) ≡ Refuse number ack
-refused_ack number ack good some few = go (ℕ_discrete ack wrong_first)
+refused_ack : (refusal : Refusal) (ack : ℕ) (good : Move) → 1 ≤ ack → ack ≤ 2
+    → by_ack ack good (Refuse refusal wrong_first) (Refuse refusal wrong_second) ≡ Refuse refusal ack
+refused_ack refusal ack good some few = go (ℕ_discrete ack wrong_first)
   where
-    go : Dec (ack ≡ wrong_first) → by_ack ack good (Refuse number wrong_first) (Refuse number wrong_second) ≡ Refuse number ack
+    go : Dec (ack ≡ wrong_first) → by_ack ack good (Refuse refusal wrong_first) (Refuse refusal wrong_second) ≡ Refuse refusal ack
     go (yes first) = rw first (ack_first _ _ _)
     go (no other) = let second : ack ≡ wrong_second = omega arith in rw second (ack_second _ _ _)
 
@@ -552,31 +553,31 @@ module _ {s : Session} {w : Wait} {g : Given} (a : Awaits s w g) where
   due_leaves (restart_again rate size e h) = heard_restart rate size not_understood Resend e h (ack_again _ _ _)
 
   -- A refusal is passed on.
-  refused_leaves : (number passed : ℕ) → RefusedBy w g number passed → leaves s g ≡ moved s w (Refuse number passed) g.image g.output
-  refused_leaves number passed (lowest e h n p) =
-      heard_rate R9600 1 wrong_first (Refuse number passed) e h
+  refused_leaves : (refusal : Refusal) (passed : ℕ) → RefusedBy w g refusal passed → leaves s g ≡ moved s w (Refuse refusal passed) g.image g.output
+  refused_leaves refusal passed (lowest e h n p) =
+      heard_rate R9600 1 wrong_first (Refuse refusal passed) e h
       (rate_asked R9600 1 wrong_first refl ∙ ack_first _ _ _ ∙ ap₂ Refuse (sym n) (sym p))
-  refused_leaves number passed (parameters rate most e some few h n) =
-      heard_parameters rate most passed (Refuse number passed) e h
+  refused_leaves refusal passed (parameters rate most e some few h n) =
+      heard_parameters rate most passed (Refuse refusal passed) e h
       (parameters_ack w.plan (length g.image) rate (number_at 2 (parameters_reply most passed).payload 0) passed
       ∙ refused_ack module_refused passed _ some few
-      ∙ ap (λ (v : ℕ). Refuse v passed) (sym n))
-  refused_leaves number passed (packet rate size k e h n p) =
-      heard_packet rate size k k wrong_first (Refuse number passed) e (sending_number rate size k e).1 h
+      ∙ ap (λ (v : Refusal). Refuse v passed) (sym n))
+  refused_leaves refusal passed (packet rate size k e h n p) =
+      heard_packet rate size k k wrong_first (Refuse refusal passed) e (sending_number rate size k e).1 h
       (packet_this w.plan (length g.image) rate size k k wrong_first refl ∙ ack_first _ _ _ ∙ ap₂ Refuse (sym n) (sym p))
-  refused_leaves number passed (packet_0 rate size k e h n p) =
-      heard_packet rate size k 0 wrong_first (Refuse number passed) e (omega arith) h
+  refused_leaves refusal passed (packet_0 rate size k e h n p) =
+      heard_packet rate size k 0 wrong_first (Refuse refusal passed) e (omega arith) h
       (packet_none w.plan (length g.image) rate size k 0 wrong_first (λ z. omega (arith, (sending_number rate size k e).0)) refl
       ∙ ack_first _ _ _
       ∙ ap₂ Refuse (sym n) (sym p))
-  refused_leaves number passed (same_version rate size k e way h n p) =
-      heard_packet rate size k k wrong_second (Refuse number passed) e (sending_number rate size k e).1 h
+  refused_leaves refusal passed (same_version rate size k e way h n p) =
+      heard_packet rate size k k wrong_second (Refuse refusal passed) e (sending_number rate size k e).1 h
       (packet_this w.plan (length g.image) rate size k k wrong_second refl
       ∙ ack_second _ _ _
       ∙ rw way (ap₂ Refuse (sym n) (sym p)))
-  refused_leaves number passed (failure rate size e some h n) =
-      heard_notice rate size passed (Refuse number passed) e h
-      (notice_bad rate size passed (λ z. omega arith) ∙ ap (λ (v : ℕ). Refuse v passed) (sym n))
+  refused_leaves refusal passed (failure rate size e some h n) =
+      heard_notice rate size passed (Refuse refusal passed) e h
+      (notice_bad rate size passed (λ z. omega arith) ∙ ap (λ (v : Refusal). Refuse v passed) (sym n))
 
   -- Without pieces the load stops.
   stops_leaves : NoPieces w g → leaves s g ≡ moved s w TooMany g.image g.output
@@ -594,11 +595,11 @@ module _ {s : Session} {w : Wait} {g : Given} (a : Awaits s w g) where
   message_leaves message next answer (again due few m n r) =
       rw (r, m, n) (due_leaves due ∙ resends_more s w g.image g.output few)
   message_leaves message next answer (onward stage follows m n r) = rw (r, m, n) (follows_leaves stage follows)
-  message_leaves message next answer (restart number passed refused m n r) =
+  message_leaves message next answer (restart refusal passed refused m n r) =
       rw (r, m, n)
-      (refused_leaves number passed refused
+      (refused_leaves refusal passed refused
       ∙ ap
-      (λ (p : Phase). sends s (stepped (session (length g.image) (failed_phase p)) (Failed number passed (length (wire_of restart_frame)))) (wire_of restart_frame) g.output)
+      (λ (p : Phase). sends s (stepped (session (length g.image) (failed_phase p)) (Failed refusal passed (length (wire_of restart_frame)))) (wire_of restart_frame) g.output)
       a.phase_is)
 
 -- Every step is one of the turns.

@@ -1,4 +1,5 @@
 -- What the host promises, to be read without the proofs. Each statement is proved in the file named beside it.
+use Rattle.refusals.specs.declared.Refusal.{Refusal}
 use Rattle.std.specs.Prelude.{ℕ, zero, suc, ◌+◌, ◌^◌, ◌≤◌, ◌<◌, true, List, [], ◌∷◌, ◌++◌, ◌≡◌, length, take}
 use Rattle.octets.specs.Octets.{Bytes, over}
 use Rattle.kinds.specs.Kinds.{number_of, fits_file}
@@ -89,19 +90,19 @@ pub data Due (w : Wait) (g : Given) : Type 0 where
   restart_again : (rate : Rate) (size : ℕ) → w.stage ≡ Restarting rate size → Hears g (restart_reply not_understood) → Due w g
 
 -- Why the module's byte is passed on: with 21 a refusal, with 22 a notice other than 0.
-pub data RefusedBy (w : Wait) (g : Given) (number passed : ℕ) : Type 0 where
-  lowest : w.stage ≡ Asking R9600 → Hears g (rate_reply 1 wrong_first) → number ≡ module_refused → passed ≡ wrong_first
-      → RefusedBy w g number passed
+pub data RefusedBy (w : Wait) (g : Given) (refusal : Refusal) (passed : ℕ) : Type 0 where
+  lowest : w.stage ≡ Asking R9600 → Hears g (rate_reply 1 wrong_first) → refusal ≡ module_refused → passed ≡ wrong_first
+      → RefusedBy w g refusal passed
   parameters : (rate : Rate) (most : ℕ) → w.stage ≡ Declaring rate → 1 ≤ passed → passed ≤ 2 → Hears g (parameters_reply most passed)
-      → number ≡ module_refused → RefusedBy w g number passed
+      → refusal ≡ module_refused → RefusedBy w g refusal passed
   packet : (rate : Rate) (size k : ℕ) → w.stage ≡ Sending rate size k → Hears g (packet_reply k wrong_first)
-      → number ≡ module_refused → passed ≡ wrong_first → RefusedBy w g number passed
+      → refusal ≡ module_refused → passed ≡ wrong_first → RefusedBy w g refusal passed
   packet_0 : (rate : Rate) (size k : ℕ) → w.stage ≡ Sending rate size k → Hears g (packet_reply 0 wrong_first)
-      → number ≡ module_refused → passed ≡ wrong_first → RefusedBy w g number passed
+      → refusal ≡ module_refused → passed ≡ wrong_first → RefusedBy w g refusal passed
   same_version : (rate : Rate) (size k : ℕ) → w.stage ≡ Sending rate size k → w.plan.same ≡ Stop
-      → Hears g (packet_reply k wrong_second) → number ≡ module_refused → passed ≡ wrong_second → RefusedBy w g number passed
+      → Hears g (packet_reply k wrong_second) → refusal ≡ module_refused → passed ≡ wrong_second → RefusedBy w g refusal passed
   failure : (rate : Rate) (size : ℕ) → w.stage ≡ Noticing rate size → 1 ≤ passed → Hears g (notice passed)
-      → number ≡ bad_notice → RefusedBy w g number passed
+      → refusal ≡ bad_notice → RefusedBy w g refusal passed
 
 -- The parameters are accepted with a MaxPk that leaves no piece size, or too many pieces.
 pub record NoPieces (w : Wait) (g : Given) : Type 0 where
@@ -140,8 +141,8 @@ pub data Message (w : Wait) (g : Given) (message : List ℕ) (next : Session) (a
       → Message w g message next answer
   onward : (stage : Stage) → Follows w.plan (length g.image) g w.stage stage → message ≡ message_of w.plan g.image stage
       → next ≡ waiting_of (length g.image) w.plan stage 0 0 → answer ≡ Sent (length message) → Message w g message next answer
-  restart : (number passed : ℕ) → RefusedBy w g number passed → message ≡ wire_of restart_frame
-      → next ≡ session (length g.image) (ended_at_rate w.plan.kind (stage_rate w.stage)) → answer ≡ Failed number passed (length message) → Message w g message next answer
+  restart : (refusal : Refusal) (passed : ℕ) → RefusedBy w g refusal passed → message ≡ wire_of restart_frame
+      → next ≡ session (length g.image) (ended_at_rate w.plan.kind (stage_rate w.stage)) → answer ≡ Failed refusal passed (length message) → Message w g message next answer
 
 -- What a step is.
 pub data Turn (s : Session) (w : Wait) (g : Given) (x : Left) : Type 0 where

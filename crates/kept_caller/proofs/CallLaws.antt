@@ -27,8 +27,8 @@ use Rattle.kept_reader.specs.Promises.{Whole}
 use Rattle.kept_reader.proofs.KeptRun.{fresh_whole, step_whole}
 use Rattle.kept_host.specs.Promises.{Real}
 use Rattle.kept_host.proofs.Run.{step_real, opening_real, wishes_known_law, wishes_back}
-use Rattle.kept_host.specs.Kept.{opening_by}
-use Rattle.kept_caller.specs.Kept.{caller_bytes, caller_kept, kept_as, kept_hears, kept_waits, opened_as, kept_opening}
+use Rattle.kept_host.specs.Kept.{opening_by, BegunLeft, begun_as}
+use Rattle.kept_caller.specs.Kept.{caller_bytes, caller_kept, kept_as, kept_hears, kept_waits, opened_as, kept_opening, opened_with}
 use Rattle.kept_caller.specs.Promises.{Keeps, KeptOpening, KeptCall}
 use Rattle.kept_caller.proofs.Back.{kept_back}
 
@@ -116,8 +116,8 @@ pub kept_opening_law : KeptOpening
 unfolding kept_opening opening_by after_of
 kept_opening_law st number w image output room short wish = (
   cond_no _ _ _ (le-ltb (length st) caller_bytes room)
-      ∙ ap (λ (l : Left). opened_as l st)
-      (cond_yes _ _ _ (wishes_known_law w) ∙ ap (λ (x : Wishes). opening_of number x image output) (wishes_back w)),
+      ∙ ap (λ (b : BegunLeft). opened_with b st)
+      (cond_yes _ _ _ (wishes_known_law w) ∙ ap (λ (x : Wishes). begun_as (opening_of number x image output)) (wishes_back w)),
   record {
     whole = fresh_whole;
     arisen = reached_arises number w image output [];

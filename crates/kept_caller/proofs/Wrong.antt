@@ -130,10 +130,10 @@ timeless_refuted promise =
 -- What the last load has counted goes on.
 pub counts_on_law : Opens
 counts_on_law st number first wish start same image output =
-    let l = opening_by number first wish start same image output in
+    let b = opening_by number first wish start same image output in
     let c = caller_in st in
-    opened (number_in l.answer) (count_in l.answer) (caller_kept (caller_with (caller_of l.session).end c.resent c.dropped) st)
-    l.output
+    opened b.begun.told.number b.begun.told.count (caller_kept (caller_with (caller_of b.begun.session).end c.resent c.dropped) st)
+    b.output
 
 -- The opening of a type that is none, refused, after a load that has resent three messages.
 none : Wishes

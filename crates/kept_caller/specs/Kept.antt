@@ -2,7 +2,7 @@
 -- time leaves.
 use Rattle.std.specs.Prelude.{ℕ, ◌+◌, cond, List, [], ◌∷◌, ltb, length, drop}
 use Rattle.octets.specs.Octets.{number_at, laid}
-use Rattle.refusals.specs.Refusals.{no_room}
+use Rattle.refusals.specs.Refusals.{no_room, refusal_number}
 use Rattle.flat.specs.Words.{spelled_all, low_half, high_half}
 use Rattle.host_model.specs.Events.{number_in, passed_in, count_in}
 use Rattle.host_model.specs.Views.{line_number}
@@ -13,7 +13,7 @@ use Rattle.posts.specs.Caller.{CallerLeft, caller_with, caller_of, caller_hears,
 use Rattle.posts.specs.declared.caller.Caller.{Caller}
 use Rattle.kept_reader.specs.Kept.{reader_bytes, reader_in, reader_kept}
 use Rattle.kept_host.specs.Record.{record_bytes}
-use Rattle.kept_host.specs.Kept.{stage_number, words_of, session_in, Kept, kept, Opened, opened, opening_by}
+use Rattle.kept_host.specs.Kept.{stage_number, words_of, session_in, Kept, kept, Opened, opened, opening_by, BegunLeft, begun_as}
 
 -- Where each part stands, and how long the record is.
 abbrev pub seen_place : ℕ
@@ -53,20 +53,23 @@ kept_as l st = kept (number_in l.answer) (count_in l.answer) (passed_in l.answer
 -- 2 and nothing changed for bytes without room; else a byte,
 unfoldable pub kept_hears : List ℕ → ℕ → List ℕ → List ℕ → Kept
 kept_hears st byte image output =
-    cond (ltb (length st) caller_bytes) (kept no_room 0 0 st output) (kept_as (caller_hears (caller_in st) byte image output) st)
+    cond (ltb (length st) caller_bytes) (kept (refusal_number no_room) 0 0 st output) (kept_as (caller_hears (caller_in st) byte image output) st)
 
 -- or some milliseconds.
 unfoldable pub kept_waits : List ℕ → ℕ → List ℕ → List ℕ → Kept
 kept_waits st ms image output =
-    cond (ltb (length st) caller_bytes) (kept no_room 0 0 st output) (kept_as (caller_waits (caller_in st) ms image output) st)
+    cond (ltb (length st) caller_bytes) (kept (refusal_number no_room) 0 0 st output) (kept_as (caller_waits (caller_in st) ms image output) st)
 
 -- An opening: its answer, and its session with a fresh reader and nothing counted.
+abbrev pub opened_with : BegunLeft → List ℕ → Opened
+opened_with b st = opened b.begun.told.number b.begun.told.count (caller_kept (caller_of b.begun.session) st) b.output
+
 abbrev pub opened_as : Left → List ℕ → Opened
-opened_as l st = opened (number_in l.answer) (count_in l.answer) (caller_kept (caller_of l.session) st) l.output
+opened_as l st = opened_with (begun_as l) st
 
 unfoldable pub kept_opening : List ℕ → ℕ → ℕ → ℕ → ℕ → ℕ → List ℕ → List ℕ → Opened
 kept_opening st number first wish start same image output =
-    cond (ltb (length st) caller_bytes) (opened no_room 0 st output) (opened_as (opening_by number first wish start same image output) st)
+    cond (ltb (length st) caller_bytes) (opened (refusal_number no_room) 0 st output) (opened_with (opening_by number first wish start same image output) st)
 
 -- What a screen needs.
 pub record View : Type 0 where

@@ -7,6 +7,7 @@ ghost use Rattle.kept_caller.specs.Kept.{kept_as, kept_opening, kept_hears, kept
 use crate::kept::{caller_in, keep};
 use crate::record;
 use posts::{Caller, CallerStep};
+use refusals::Refusal;
 
 // Opens a session: 2 and nothing written for bytes without room; else its record, with a fresh reader and nothing counted.
 pub fn open(
@@ -25,15 +26,12 @@ pub fn open(
 {
     *count = 0;
     if state.len() < record::CALLER_BYTES {
-        return refusals::NO_ROOM;
+        return Refusal::NoRoom.number();
     }
     let begun = kept_host::begin(number, image, first, wish, start, same, out);
-    let session = begun.session;
-    let answer = begun.answer;
-    keep(Caller::new(session), state);
-    let says = kept_host::told_of(answer);
-    *count = says.count;
-    says.number
+    keep(Caller::new(begun.session), state);
+    *count = begun.told.count;
+    begun.told.number
 }
 
 // A byte has arrived.
@@ -51,7 +49,7 @@ pub fn hear(
     if state.len() < record::CALLER_BYTES {
         *count = 0;
         *passed = 0;
-        return refusals::NO_ROOM;
+        return Refusal::NoRoom.number();
     }
     leave(
         caller_in(state).hear(byte, image, out),
@@ -76,7 +74,7 @@ pub fn wait(
     if state.len() < record::CALLER_BYTES {
         *count = 0;
         *passed = 0;
-        return refusals::NO_ROOM;
+        return Refusal::NoRoom.number();
     }
     leave(caller_in(state).wait(ms, image, out), state, count, passed)
 }

@@ -1,5 +1,5 @@
 -- A session is read as it was written.
-use Rattle.std.specs.Prelude.{ℕ, ◌+◌, ◌*◌, ◌%◌, ◌^◌, ◌≤◌, ◌<◌, true, ◌&&◌, List, ◌≡◌, length}
+use Rattle.std.specs.Prelude.{ℕ, ◌+◌, ◌*◌, ◌%◌, ◌^◌, ◌≤◌, ◌<◌, true, ◌&&◌, List, ◌≡◌, length, Option, Some}
 use Rattle.std.proofs.Math.Path.{refl, ap, ap₂}
 use Rattle.std.proofs.Common.{◌∙◌, arith}
 use Rattle.octets.proofs.Choice.{cond_yes}
@@ -8,8 +8,6 @@ use Rattle.octets.proofs.OctetsLaws.{little_spelled}
 use Rattle.kinds.specs.Kinds.{kind_of, number_of}
 use Rattle.kinds.specs.KindsLaws.{kind_of_number, kind_spelled}
 use Rattle.kinds.specs.declared.Kind.{Kind}
-use Rattle.kinds.specs.declared.Known.{Known}
-use Rattle.kinds.specs.declared.Known.TheVariants.{Is}
 use Rattle.flat.specs.Words.{low_half, high_half, spelled_all, recorded, stands_for}
 use Rattle.flat.specs.WordsLaws.{number_eight}
 use Rattle.flat.specs.Found.{recorded_over, recorded_stands}
@@ -103,7 +101,7 @@ module _ (image : ℕ) (s : Staged) (w : Wait) (st : List ℕ) where
       ∙ ap₂ (λ (x y : ℕ). x + 4294967296 * y)
       (little_spelled 4 (low_half w.plan.wish) (omega arith)) (little_spelled 4 (high_half w.plan.wish) (omega arith))
 
-  kind_at : kind_of (number_at 2 (written image s w st) type_place) ≡ Is w.plan.kind
+  kind_at : kind_of (number_at 2 (written image s w st) type_place) ≡ Some w.plan.kind
   unfolding number_at spelled_all spelled over
   kind_at =
       ap kind_of (little_spelled 2 (number_of w.plan.kind) (kind_spelled w.plan.kind).0) ∙ kind_of_number w.plan.kind
@@ -163,7 +161,7 @@ wait_back image w st f short wish =
     let staged : stage_in (written image s w st) ≡ w.stage =
     stage_at image s w st words.0 words.1 ∙ stage_back w.plan image w.stage f.staged in
     ap₂ session (image_at image s w st ∙ halves image short)
-    (ap (λ (k : Known). phase_in k (written image s w st)) (kind_at image s w st)
+    (ap (λ (k : Option Kind). phase_in k (written image s w st)) (kind_at image s w st)
     ∙ waiting_at image w.stage w st
     ∙ rw (plan_at image s w st wish, staged, times.0, times.1))
 
@@ -199,10 +197,10 @@ failed_back : (image : ℕ) (kind : Kind) (rate : Rate) (st : List ℕ) → imag
 unfolding fields_in
 failed_back image kind rate st short =
     let all : List ℕ = ended image (number_of kind) (number_of_rate rate) st in
-    let known : kind_of (number_at 2 all type_place) ≡ Is kind =
+    let known : kind_of (number_at 2 all type_place) ≡ Some kind =
     ap kind_of (ended_type image (number_of kind) (number_of_rate rate) st (kind_spelled kind).0) ∙ kind_of_number kind in
     ap₂ session (ended_image image (number_of kind) (number_of_rate rate) st short)
-    (ap (λ (k : Known). phase_in k all) known
+    (ap (λ (k : Option Kind). phase_in k all) known
     ∙ ended_phase image (number_of kind) (number_of_rate rate) st kind
     ∙ ap (EndedAt kind) (rate_back rate))
 

@@ -1,4 +1,5 @@
 -- The laws of Kept that the contracts lean on: how long a record is, and what a call puts together.
+use Rattle.kept_host.specs.declared.opening.Begun.{Begun}
 use Rattle.std.specs.Prelude.{ℕ, Bool, List, ◌≡◌, refl, length, get_or}
 use Rattle.std.proofs.Math.Path.{sym, ap}
 use Rattle.std.proofs.Common.{◌∙◌, eq-eqb, ne_eqb}
@@ -17,7 +18,7 @@ use Rattle.host.specs.declared.session.Session.{Session}
 use Rattle.host_model.specs.declared.events.Event.{Event}
 use Rattle.host.specs.declared.session.Stepped.{Stepped}
 use Rattle.kept_host.specs.Record.{stage_place, rate_place, waited_place, repeats_place, record_words, record_bytes, ended_stage}
-use Rattle.kept_host.specs.Kept.{words_of, phase_words, rate_in, stage_in, plan_in, kind_phase, fields_in, session_in, kept_of, told_of, kept, kept_as, kept_step, opened, opened_as}
+use Rattle.kept_host.specs.Kept.{words_of, phase_words, rate_in, stage_in, plan_in, kind_phase, fields_in, session_in, kept_of, told_of, kept, kept_as, kept_step, opened, opened_as, BegunLeft, opened_with}
 use Rattle.kept_host.specs.declared.answers.Told.{Told}
 
 -- ---- the record
@@ -71,11 +72,10 @@ step_kept st event bytes image output s r out state t read step keeps says =
     ∙ ap (kept_as (left r out)) keeps
     ∙ ap (λ (l : Left). kept_as l (kept_of st l.session)) (step ∙ ap (λ (x : Session). step_of x event bytes image output) read)
 
--- So are an opening, its session's record and its answer.
-pub open_kept : (st : List ℕ) (l : Left) (r : Stepped) (out state : List ℕ) (t : Told)
-    → left r out ≡ l → state ≡ recorded (words_of r.session) st → t ≡ told_of r.answer
-    → opened t.number t.count state out ≡ opened_as l st
-open_kept st l r out state t opening keeps says =
-    ap (λ (x : Told). opened x.number x.count state out) says
-    ∙ ap (λ (x : List ℕ). opened (told_of r.answer).number (told_of r.answer).count x out) keeps
-    ∙ ap (λ (x : Left). opened_as x st) opening
+-- So are an opening and its session's record.
+pub open_kept : (st : List ℕ) (b : BegunLeft) (begun : Begun) (out state : List ℕ)
+    → record { begun = begun; output = out } ≡ b → state ≡ recorded (words_of begun.session) st
+    → opened begun.told.number begun.told.count state out ≡ opened_with b st
+open_kept st b begun out state opening keeps =
+    ap (λ (x : List ℕ). opened begun.told.number begun.told.count x out) keeps
+    ∙ ap (λ (x : BegunLeft). opened_with x st) opening

@@ -1,13 +1,11 @@
 -- A run through kept bytes is the session's own.
-use Rattle.std.specs.Prelude.{ℕ, ◌-◌, ◌^◌, ◌≤◌, ◌<◌, true, ◌≡◌, eqb, leb, ltb, length, take}
+use Rattle.std.specs.Prelude.{ℕ, ◌-◌, ◌^◌, ◌≤◌, ◌<◌, true, ◌≡◌, eqb, leb, ltb, length, take, None, Option, Some}
 use mathlib.Core.List.{List, [], ◌∷◌}
 use Rattle.std.proofs.Math.Path.{refl, sym, ap, ap₂}
 use Rattle.std.proofs.Common.{◌∙◌, arith, eqb-true, le-ltb}
 use Rattle.octets.proofs.Choice.{either_way, cond_yes, cond_no}
 use Rattle.kinds.specs.Kinds.{kind_of}
 use Rattle.kinds.specs.declared.Kind.{Kind}
-use Rattle.kinds.specs.declared.Known.{Known}
-use Rattle.kinds.specs.declared.Known.TheVariants.{Is, Unknown}
 use Rattle.flat.specs.Words.{recorded}
 use Rattle.host_model.specs.Stages.{number_of_rate}
 use Rattle.host_model.specs.Answers.{frame_move, line_move}
@@ -21,8 +19,6 @@ use Rattle.host_model.specs.declared.plan.Same.{Same}
 use Rattle.host_model.specs.declared.plan.Same.TheVariants.{GoOn, Stop}
 use Rattle.host_model.specs.Views.{stage_rate, ended_at_rate, failed_phase}
 use Rattle.host_model.specs.Waits.{most_repeats, limit_of, loadable}
-use Rattle.host_model.specs.declared.views.LineRate.{LineRate}
-use Rattle.host_model.specs.declared.views.LineRate.TheVariants.{AsItWas, At}
 use Rattle.host_model.specs.Nexts.{resend_next, time_next, plan_next}
 use Rattle.host.specs.Session.{arises}
 use Rattle.host.specs.Step.{Left, Wishes, sends, ended_of, performs, resends, moved, time_step, event_step, phase_step, step_of}
@@ -38,7 +34,7 @@ use Rattle.host_model.specs.declared.events.Event.{Event}
 use Rattle.host_model.specs.declared.events.Event.TheVariants.{Frame, Line, Elapsed}
 use Rattle.host.specs.declared.session.Stepped.{Stepped}
 use Rattle.kept_host.specs.Record.{record_bytes}
-use Rattle.kept_host.specs.Kept.{start_number, same_number, words_of, rate_in, start_in, same_in, kept_of, Kept, kept_as, kept_step}
+use Rattle.kept_host.specs.Kept.{start_number, same_number, words_of, rate_in, start_in, same_in, kept_of, Kept, kept_as, kept_step, BegunLeft, begun_as, opened_with}
 use Rattle.kept_host.specs.Kept.{Opened, opened_as, wishes_known, wishes_in, opening_by, kept_opening}
 use Rattle.flat.specs.Calls.{calls_by, bytes_by}
 use Rattle.flat.specs.Found.{recorded_again}
@@ -52,9 +48,9 @@ abbrev RealLeft : Left → Type 0
 RealLeft l = Real l.session
 
 -- A load that has failed has no wish, whatever rate it keeps.
-rate_wish : (kind : Kind) (line : LineRate) → wish_in (ended_at_rate kind line) < 2 ^ 64
-rate_wish kind AsItWas = omega arith
-rate_wish kind (At rate) = omega arith
+rate_wish : (kind : Kind) (line : Option Rate) → wish_in (ended_at_rate kind line) < 2 ^ 64
+rate_wish kind None = omega arith
+rate_wish kind (Some rate) = omega arith
 
 failed_wish : (phase : Phase) → wish_in (failed_phase phase) < 2 ^ 64
 failed_wish Ended = omega arith
@@ -118,14 +114,14 @@ step_real s g r =
     (λ _. r)
 
 -- An opening.
-known_real : (known : Known) (w : Wishes) (image output : List ℕ) → length image < 2 ^ 64 → w.wish < 2 ^ 64
+known_real : (known : Option Kind) (w : Wishes) (image output : List ℕ) → length image < 2 ^ 64 → w.wish < 2 ^ 64
     → RealLeft (known_opening known w image output)
 unfolding plan_next
-known_real (Is kind) w image output short wish =
+known_real (Some kind) w image output short wish =
     either_way (λ (n : Next). RealLeft (performs (ended_of (length image)) n image output)) (loadable kind (length image))
     (λ _. sends_real _ _ _ output (ended_real (length image) short) (record { image_real = short; wish_real = wish }))
     (λ _. ended_real (length image) short)
-known_real Unknown w image output short wish = ended_real (length image) short
+known_real None w image output short wish = ended_real (length image) short
 
 pub opening_real : (number : ℕ) (w : Wishes) (image output : List ℕ) → length image < 2 ^ 64 → w.wish < 2 ^ 64
     → Real (opening_of number w image output).session
@@ -197,8 +193,8 @@ pub opened_same : (st : List ℕ) (number : ℕ) (w : Wishes) (image output : Li
 unfolding kept_opening opening_by
 opened_same st number w image output room =
     cond_no _ _ _ (le-ltb (length st) record_bytes room)
-    ∙ ap (λ (l : Left). opened_as l st)
-    (cond_yes _ _ _ (wishes_known_law w) ∙ ap (λ (x : Wishes). opening_of number x image output) (wishes_back w))
+    ∙ ap (λ (b : BegunLeft). opened_with b st)
+    (cond_yes _ _ _ (wishes_known_law w) ∙ ap (λ (x : Wishes). begun_as (opening_of number x image output)) (wishes_back w))
 
 pub kept_run : KeptRun
 unfolding after_of

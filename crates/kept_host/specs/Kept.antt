@@ -1,11 +1,10 @@
 -- A host's session kept as bytes: its record, how bytes are read again, and what a call with them leaves.
-use Rattle.std.specs.Prelude.{ℕ, Bool, cond, ◌&&◌, List, [], ◌∷◌, eqb, leb, ltb, length, get_or}
+use Rattle.kept_host.specs.declared.opening.Begun.{Begun}
+use Rattle.std.specs.Prelude.{ℕ, Bool, cond, ◌&&◌, List, [], ◌∷◌, eqb, leb, ltb, length, get_or, None, Option, Some}
 use Rattle.octets.specs.Octets.{number_at}
-use Rattle.refusals.specs.Refusals.{no_room}
+use Rattle.refusals.specs.Refusals.{no_room, refusal_number}
 use Rattle.kinds.specs.Kinds.{kind_of, number_of}
 use Rattle.kinds.specs.declared.Kind.{Kind}
-use Rattle.kinds.specs.declared.Known.{Known}
-use Rattle.kinds.specs.declared.Known.TheVariants.{Is, Unknown}
 use Rattle.flat.specs.Answers.{unknown}
 use Rattle.flat.specs.Words.{low_half, high_half, recorded, stands_for}
 use Rattle.host_model.specs.Stages.{number_of_rate}
@@ -127,9 +126,9 @@ kind_phase kind st =
     (Waiting (wait (plan_in kind st) (stage_in st) (number_at 4 st waited_place) (number_at 4 st repeats_place)))
 
 -- A type that is not known is read as a session that has ended.
-abbrev pub phase_in : Known → List ℕ → Phase
-phase_in (Is kind) st = kind_phase kind st
-phase_in Unknown st = Ended
+abbrev pub phase_in : Option Kind → List ℕ → Phase
+phase_in (Some kind) st = kind_phase kind st
+phase_in None st = Ended
 
 -- The session that the numbers of some bytes say.
 unfoldable pub fields_in : List ℕ → Session
@@ -186,9 +185,24 @@ pub record Opened : Type 0 where
 abbrev pub opened : ℕ → ℕ → List ℕ → List ℕ → Opened
 opened answer count state output = record { answer = answer; count = count; state = state; output = output }
 
+-- What an opening by numbers leaves: the session, its answer's numbers, and the output.
+pub record BegunLeft : Type 0 where
+  pub begun : Begun
+  pub output : List ℕ
+
+abbrev pub begun_left : Session → Told → List ℕ → BegunLeft
+begun_left s told output = record { begun = record { session = s; told = told }; output = output }
+
+-- The session's own opening, told in numbers.
+abbrev pub begun_as : Left → BegunLeft
+begun_as l = begun_left l.session (told_of l.answer) l.output
+
 -- A session opened over some bytes: its answer, and its record.
+abbrev pub opened_with : BegunLeft → List ℕ → Opened
+opened_with b st = opened b.begun.told.number b.begun.told.count (recorded (words_of b.begun.session) st) b.output
+
 abbrev pub opened_as : Left → List ℕ → Opened
-opened_as l st = opened (number_in l.answer) (count_in l.answer) (recorded (words_of l.session) st) l.output
+opened_as l st = opened_with (begun_as l) st
 
 -- A rate is 1 to 5, start and same are 0 or 1.
 unfoldable pub wishes_known : ℕ → ℕ → ℕ → Bool
@@ -198,12 +212,12 @@ abbrev pub wishes_in : ℕ → ℕ → ℕ → ℕ → Wishes
 wishes_in first wish start same = record { first = rate_in first; wish = wish; start = start_in start; same = same_in same }
 
 -- An opening by numbers: 106 and an ended session for a rate, start or same that is none.
-unfoldable pub opening_by : ℕ → ℕ → ℕ → ℕ → ℕ → List ℕ → List ℕ → Left
+unfoldable pub opening_by : ℕ → ℕ → ℕ → ℕ → ℕ → List ℕ → List ℕ → BegunLeft
 opening_by number first wish start same image output =
-    cond (wishes_known first start same) (opening_of number (wishes_in first wish start same) image output)
-    (left (stepped (ended_of (length image)) (Refused unknown)) output)
+    cond (wishes_known first start same) (begun_as (opening_of number (wishes_in first wish start same) image output))
+    (begun_left (ended_of (length image)) (record { number = unknown; count = 0; passed = 0 }) output)
 
 -- 2 and nothing written for bytes without room; else the opening, and its session's record.
 unfoldable pub kept_opening : List ℕ → ℕ → ℕ → ℕ → ℕ → ℕ → List ℕ → List ℕ → Opened
 kept_opening st number first wish start same image output =
-    cond (ltb (length st) record_bytes) (opened no_room 0 st output) (opened_as (opening_by number first wish start same image output) st)
+    cond (ltb (length st) record_bytes) (opened (refusal_number no_room) 0 st output) (opened_with (opening_by number first wish start same image output) st)

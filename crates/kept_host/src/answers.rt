@@ -3,8 +3,8 @@ ghost use Rattle.std.specs.Prelude.{◌≡◌};
 ghost use Rattle.host_model.specs.Views.{line_number};
 ghost use Rattle.kept_host.specs.Kept.{told_of};
 
-use host::{Answer, LineRate};
-use stages::rate_number;
+use host::Answer;
+use stages::{Rate, rate_number};
 
 // The answer's number, the count to send, the byte passed on.
 #[derive(Clone, Copy)]
@@ -33,17 +33,17 @@ pub fn told_of(answer: Answer) -> Told
             count: 0,
             passed: 0,
         },
-        Answer::Refused(number) => Told {
-            number: number,
+        Answer::Refused(refusal) => Told {
+            number: refusal.number(),
             count: 0,
             passed: 0,
         },
         Answer::Failed {
-            number,
+            refusal,
             passed,
             count,
         } => Told {
-            number: number,
+            number: refusal.number(),
             count: count,
             passed: passed,
         },
@@ -51,11 +51,11 @@ pub fn told_of(answer: Answer) -> Told
 }
 
 // The rate of the line by its number, 0 as it was.
-pub(crate) fn line_number(rate: LineRate) -> u8
+pub(crate) fn line_number(rate: Option<Rate>) -> u8
     ensures { result ≡ line_number rate }
 {
     match rate {
-        LineRate::AsItWas => 0,
-        LineRate::At(agreed) => rate_number(agreed),
+        None => 0,
+        Some(agreed) => rate_number(agreed),
     }
 }

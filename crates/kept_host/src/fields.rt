@@ -4,7 +4,7 @@ ghost use Rattle.kept_host.specs.Kept.{rate_in, start_in, same_in, stage_of, sta
 
 use crate::record;
 use host::{Phase, Session, Wait};
-use kinds::{Kind, Known};
+use kinds::Kind;
 use stages::{Plan, Rate, Same, Stage, Start};
 
 // The session that the numbers say.
@@ -22,12 +22,12 @@ pub(crate) fn fields_in(state: &[u8]) -> Session
 }
 
 // A type that is not known is read as a session that has ended.
-fn phase_in(known: Known, state: &[u8]) -> Phase
+fn phase_in(known: Option<Kind>, state: &[u8]) -> Phase
     ensures { result ≡ phase_in known state.now }
 {
     match known {
-        Known::Is(kind) => kind_phase(kind, state),
-        Known::Unknown => Phase::Ended,
+        Some(kind) => kind_phase(kind, state),
+        None => Phase::Ended,
     }
 }
 

@@ -12,5 +12,5 @@ mod words;
 pub use answers::{Told, told_of};
 pub use calls::{frame, line, line_rate, progress, resent, stage, wait};
 pub use kept::{session_in, stands, write};
-pub use opening::{begin, open};
+pub use opening::{Begun, begin, open};
 pub use record::RECORD_BYTES;

@@ -1,13 +1,20 @@
 // The opening of a session that is kept as bytes.
 ghost use Rattle.std.specs.Prelude.{◌≡◌};
-ghost use Rattle.host.specs.Step.{left};
 ghost use Rattle.kept_host.specs.Kept.{opened, wishes_known, opening_by, kept_opening};
 
-use crate::answers::told_of;
+use crate::answers::{Told, told_of};
 use crate::fields::{rate_in, same_in, start_in};
 use crate::kept::{over, write};
 use crate::record;
-use host::{Answer, Session, Stepped};
+use host::Session;
+use refusals::Refusal;
+
+// What an opening by numbers leaves: the session, and its answer as C is told it.
+#[derive(Clone, Copy)]
+pub struct Begun {
+    pub session: Session,
+    pub told: Told,
+}
 
 // Opens a session: 2 and nothing written for bytes without room; else its record and its answer.
 pub fn open(
@@ -26,15 +33,12 @@ pub fn open(
 {
     *count = 0;
     if state.len() < record::RECORD_BYTES {
-        return refusals::NO_ROOM;
+        return Refusal::NoRoom.number();
     }
-    let stepped = begin(number, image, first, wish, start, same, out);
-    let next = stepped.session;
-    let answer = stepped.answer;
-    write(next, state);
-    let says = told_of(answer);
-    *count = says.count;
-    says.number
+    let begun = begin(number, image, first, wish, start, same, out);
+    write(begun.session, state);
+    *count = begun.told.count;
+    begun.told.number
 }
 
 // The opening by numbers: 106 and an ended session for a rate, start or same that is none.
@@ -46,17 +50,21 @@ pub fn begin(
     start: u8,
     same: u8,
     out: &mut [u8],
-) -> Stepped
-    ensures { left result out.new
+) -> Begun
+    ensures { record { begun = result; output = out.new }
         ≡ opening_by number first wish start same image.now out.old }
 {
     if !known(first, start, same) {
-        return Stepped {
+        return Begun {
             session: over(image.len()),
-            answer: Answer::Refused(flat::UNKNOWN),
+            told: Told {
+                number: flat::UNKNOWN,
+                count: 0,
+                passed: 0,
+            },
         };
     }
-    Session::opening(
+    let stepped = Session::opening(
         number,
         image,
         rate_in(first),
@@ -64,7 +72,11 @@ pub fn begin(
         start_in(start),
         same_in(same),
         out,
-    )
+    );
+    Begun {
+        session: stepped.session,
+        told: told_of(stepped.answer),
+    }
 }
 
 // Whether a rate is 1 to 5 and start and same are 0 or 1.

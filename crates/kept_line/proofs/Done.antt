@@ -1,8 +1,10 @@
 -- The number of done is told by done alone.
+use Rattle.refusals.specs.Refusals.{refusal_number}
+use Rattle.refusals.specs.declared.Refusal.{Refusal}
 use Rattle.std.specs.Prelude.{ℕ, Bool, ◌≡◌, refl, eqb, length}
 use Rattle.std.proofs.Math.Bool.{true, false}
 use mathlib.Core.List.{List, [], Memᴰ}
-use Rattle.std.proofs.Common.{arith, eqb-true}
+use Rattle.std.proofs.Common.{arith, eqb-true, ap}
 use Rattle.octets.specs.Octets.{Bytes}
 use Rattle.octets.proofs.Choice.{either_way}
 use Rattle.wire.specs.Frame.{Frame, frame}
@@ -35,18 +37,18 @@ abbrev pub Tells : Answer → Type 0
 Tells a = number_in a ≡ load_done → a ≡ Done
 
 -- 21 and 22 are no such number.
-refused_low : (w : Wait) (g : Given) (number passed : ℕ) → RefusedBy w g number passed → number ≡ load_done → ⊥
-refused_low w g number passed (lowest a b e c) d = omega (arith, e, d)
-refused_low w g number passed (parameters rate most a b c f e) d = omega (arith, e, d)
-refused_low w g number passed (packet rate size k a b e c) d = omega (arith, e, d)
-refused_low w g number passed (packet_0 rate size k a b e c) d = omega (arith, e, d)
-refused_low w g number passed (same_version rate size k a b c e f) d = omega (arith, e, d)
-refused_low w g number passed (failure rate size a b c e) d = omega (arith, e, d)
+refused_low : (w : Wait) (g : Given) (refusal : Refusal) (passed : ℕ) → RefusedBy w g refusal passed → refusal_number refusal ≡ load_done → ⊥
+refused_low w g refusal passed (lowest a b e c) d = omega (arith, ap refusal_number e, d)
+refused_low w g refusal passed (parameters rate most a b c f e) d = omega (arith, ap refusal_number e, d)
+refused_low w g refusal passed (packet rate size k a b e c) d = omega (arith, ap refusal_number e, d)
+refused_low w g refusal passed (packet_0 rate size k a b e c) d = omega (arith, ap refusal_number e, d)
+refused_low w g refusal passed (same_version rate size k a b c e f) d = omega (arith, ap refusal_number e, d)
+refused_low w g refusal passed (failure rate size a b c e) d = omega (arith, ap refusal_number e, d)
 
 message_tells : (w : Wait) (g : Given) (message : List ℕ) (next : Session) (answer : Answer) → Message w g message next answer → Tells answer
 message_tells w g message next answer (again a b c f e) = rw e (λ d. absurd (omega (arith, d)))
 message_tells w g message next answer (onward stage a b c e) = rw e (λ d. absurd (omega (arith, d)))
-message_tells w g message next answer (restart number passed r b c e) = rw e (λ d. absurd (refused_low w g number passed r d))
+message_tells w g message next answer (restart refusal passed r b c e) = rw e (λ d. absurd (refused_low w g refusal passed r d))
 
 turn_tells : (s : Session) (w : Wait) (g : Given) (x : Left) → Turn s w g x → Tells x.answer
 turn_tells s w g x (sends message next answer m room e) = rw e (message_tells w g message next answer m)

@@ -1,12 +1,10 @@
 -- A module's session kept as bytes: its record, how it is read again, and the step over it.
-use Rattle.std.specs.Prelude.{ℕ, Bool, cond, List, [], ◌∷◌, eqb, ltb, length}
+use Rattle.std.specs.Prelude.{ℕ, Bool, cond, List, [], ◌∷◌, eqb, ltb, length, None, Option, Some}
 use Rattle.octets.specs.Octets.{number_at}
-use Rattle.refusals.specs.Refusals.{no_room}
+use Rattle.refusals.specs.Refusals.{no_room, refusal_number}
 use Rattle.kinds.specs.Kinds.{kind_of, number_of}
 use Rattle.kinds.specs.declared.Kind.{Kind}
 use Rattle.kinds.specs.declared.Kind.TheVariants.{Navigation}
-use Rattle.kinds.specs.declared.Known.{Known}
-use Rattle.kinds.specs.declared.Known.TheVariants.{Is, Unknown}
 use Rattle.module.specs.Session.{session, opening_of}
 use Rattle.module.specs.Step.{Left, step_of}
 use Rattle.module_model.specs.Answers.{number_in, count_in}
@@ -46,9 +44,9 @@ words_of s = words_by s.flash s.idle s.phase
 -- ---- reading it
 
 -- The kind of a type number; one that is none reads as the first, and its record then is another.
-abbrev pub kind_by : Known → Kind
-kind_by (Is k) = k
-kind_by Unknown = Navigation
+abbrev pub kind_by : Option Kind → Kind
+kind_by (Some k) = k
+kind_by None = Navigation
 
 abbrev pub kind_in : List ℕ → Kind
 kind_in st = kind_by (kind_of (number_at 2 st type_place))
@@ -119,5 +117,5 @@ opened answer state = record { answer = answer; state = state }
 -- An opening: 2, and nothing is written, where the record has no room.
 unfoldable pub kept_opening : List ℕ → List ℕ → Opened
 kept_opening st flash =
-    cond (ltb (length st) record_bytes) (opened no_room st)
+    cond (ltb (length st) record_bytes) (opened (refusal_number no_room) st)
     (opened (number_in (opening_of flash).answer) (recorded (words_of (opening_of flash).session) st))

@@ -8,13 +8,14 @@ use crate::reading::{fields_in, session_of};
 use crate::record;
 use crate::writing::{keep, stands, write};
 use module::{Answer, Event, Session};
+use refusals::Refusal;
 
 // Opens a session over a flash: 0; 3 and a closed session; or 2, and nothing is written, where the state has no room.
 pub fn open(state: &mut [u8], flash: &[u8]) -> u8
     ensures { opened result state.new ≡ kept_opening state.old flash.now }
 {
     if state.len() < record::RECORD_BYTES {
-        return refusals::NO_ROOM;
+        return Refusal::NoRoom.number();
     }
     let first = Session::opening(flash);
     let session = first.session;
@@ -94,7 +95,7 @@ pub fn number_of(answer: Answer) -> u8
     match answer {
         Answer::Nothing => flat::NOTHING,
         Answer::Sent(_) => flat::WRITTEN,
-        Answer::Refused(number) => number,
+        Answer::Refused(refusal) => refusal.number(),
     }
 }
 

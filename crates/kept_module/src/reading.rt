@@ -4,7 +4,7 @@ ghost use Rattle.octets.specs.Octets.{number_at};
 ghost use Rattle.kept_module.specs.Kept.{kind_in, transfer_in, pieces_in, phase_in, fields_in, session_by};
 
 use crate::record;
-use kinds::{Kind, Known};
+use kinds::Kind;
 use module::{Phase, Pieces, Session, Transfer};
 
 // The session whose numbers stand in the bytes, as far as they make sense.
@@ -61,8 +61,8 @@ fn kind_in(state: &[u8]) -> Kind
 {
     let known = kinds::kind_of(octets::two_at(state, record::TYPE_PLACE));
     match known {
-        Known::Is(kind) => kind,
-        Known::Unknown => Kind::Navigation,
+        Some(kind) => kind,
+        None => Kind::Navigation,
     }
 }
 

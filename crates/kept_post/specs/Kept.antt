@@ -1,8 +1,8 @@
 -- A module on a line that waits for the start text, kept as bytes: a reader's record, the words that count, a session's record; how they are
 -- read again, and what a byte or a time leaves.
-use Rattle.std.specs.Prelude.{ℕ, ◌+◌, Bool, cond, List, [], ◌∷◌, ltb, length, drop}
+use Rattle.std.specs.Prelude.{ℕ, ◌+◌, Bool, cond, List, [], ◌∷◌, ltb, length, drop, Option, None, Some}
 use Rattle.octets.specs.Octets.{number_at, laid}
-use Rattle.refusals.specs.Refusals.{no_room}
+use Rattle.refusals.specs.Refusals.{no_room, refusal_number}
 use Rattle.kinds.specs.Kinds.{number_of}
 use Rattle.flat.specs.Answers.{nothing}
 use Rattle.flat.specs.Words.{spelled_all, low_half, high_half}
@@ -12,6 +12,9 @@ use Rattle.posts.specs.Post.{PostLeft, post_with, waiting_post, opened_post, pos
 use Rattle.posts.specs.View.{view_of, idle_of}
 use Rattle.posts.specs.declared.post.Post.{Post}
 use Rattle.posts.specs.declared.view.View as declared
+use Rattle.posts.specs.declared.view.Stand.{Stand}
+use Rattle.posts.specs.declared.view.Stand.TheVariants as stand
+use Rattle.kinds.specs.declared.Kind.{Kind}
 use Rattle.kept_reader.specs.Kept.{reader_bytes, reader_in, reader_kept}
 use Rattle.kept_module.specs.Record.{record_bytes}
 use Rattle.kept_module.specs.Kept.{words_of, session_in, Kept, kept, Opened, opened}
@@ -45,7 +48,7 @@ post_in st =
 
 -- 2 and nothing written for bytes without room; else a post in them: one that waits,
 abbrev pub put : Post → List ℕ → Opened
-put p st = cond (ltb (length st) post_bytes) (opened no_room st) (opened nothing (post_kept p st))
+put p st = cond (ltb (length st) post_bytes) (opened (refusal_number no_room) st) (opened nothing (post_kept p st))
 
 unfoldable pub kept_new : List ℕ → Opened
 kept_new st = put waiting_post st
@@ -61,12 +64,12 @@ kept_as l st = kept (number_in l.answer) (count_in l.answer) (post_kept l.post s
 -- 2 and nothing changed for bytes without room; else a byte,
 unfoldable pub kept_hears : List ℕ → ℕ → List ℕ → List ℕ → Kept
 kept_hears st byte flash reply =
-    cond (ltb (length st) post_bytes) (kept no_room 0 st flash reply) (kept_as (post_hears (post_in st) byte flash reply) st)
+    cond (ltb (length st) post_bytes) (kept (refusal_number no_room) 0 st flash reply) (kept_as (post_hears (post_in st) byte flash reply) st)
 
 -- or some milliseconds.
 unfoldable pub kept_waits : List ℕ → ℕ → List ℕ → List ℕ → Kept
 kept_waits st ms flash reply =
-    cond (ltb (length st) post_bytes) (kept no_room 0 st flash reply) (kept_as (post_waits (post_in st) ms flash reply) st)
+    cond (ltb (length st) post_bytes) (kept (refusal_number no_room) 0 st flash reply) (kept_as (post_waits (post_in st) ms flash reply) st)
 
 -- What a screen, or a file of the flash, needs.
 pub record View : Type 0 where
@@ -82,15 +85,27 @@ abbrev pub seen_as : ℕ → ℕ → ℕ → ℕ → ℕ → ℕ → Bool → Vi
 seen_as stand number base extent written dropped idle =
     record { stand = stand; number = number; base = base; extent = extent; written = written; dropped = dropped; idle = idle }
 
+-- How far the session is, by its number.
+abbrev pub stand_number : Stand → ℕ
+stand_number stand.Closed = 0
+stand_number stand.Ready = 1
+stand_number stand.Begun = 2
+stand_number stand.Loading = 3
+stand_number stand.Done = 4
+
 -- The type of the transfer; 0 where there is none.
-unfoldable pub type_in : declared.View → ℕ
-type_in v = cond (ltb v.stand 2) 0 (number_of v.kind)
+abbrev pub kind_number : Option Kind → ℕ
+kind_number None = 0
+kind_number (Some k) = number_of k
+
+abbrev pub type_in : declared.View → ℕ
+type_in v = kind_number v.kind
 
 -- The view of the post, and what is counted.
 abbrev pub view_on : Post → View
 view_on p =
     let v = view_of p in
-    seen_as v.stand (type_in v) v.base v.extent v.written p.dropped (idle_of p)
+    seen_as (stand_number v.stand) (type_in v) v.base v.extent v.written p.dropped (idle_of p)
 
 abbrev pub view_in : List ℕ → View
 view_in st = view_on (post_in st)

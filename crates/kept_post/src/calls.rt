@@ -7,13 +7,14 @@ ghost use Rattle.kept_post.specs.Kept.{kept_as, kept_new, kept_opening, kept_hea
 use crate::kept::{keep, post_in};
 use crate::record;
 use posts::{Post, PostStep};
+use refusals::Refusal;
 
 // Makes a post that waits; 2 and nothing written for bytes without room.
 pub fn new(state: &mut [u8]) -> u8
     ensures { opened result state.new ≡ kept_new state.old }
 {
     if state.len() < record::POST_BYTES {
-        return refusals::NO_ROOM;
+        return Refusal::NoRoom.number();
     }
     keep(Post::waiting(), state);
     flat::NOTHING
@@ -24,7 +25,7 @@ pub fn open(state: &mut [u8], flash: &[u8]) -> u8
     ensures { opened result state.new ≡ kept_opening state.old flash.now }
 {
     if state.len() < record::POST_BYTES {
-        return refusals::NO_ROOM;
+        return Refusal::NoRoom.number();
     }
     keep(Post::waiting().opened(flash), state);
     flat::NOTHING
@@ -37,7 +38,7 @@ pub fn hear(state: &mut [u8], byte: u8, flash: &mut [u8], reply: &mut [u8], coun
 {
     if state.len() < record::POST_BYTES {
         *count = 0;
-        return refusals::NO_ROOM;
+        return Refusal::NoRoom.number();
     }
     leave(post_in(state).hear(byte, flash, reply), state, count)
 }
@@ -49,7 +50,7 @@ pub fn wait(state: &mut [u8], ms: u32, flash: &mut [u8], reply: &mut [u8], count
 {
     if state.len() < record::POST_BYTES {
         *count = 0;
-        return refusals::NO_ROOM;
+        return Refusal::NoRoom.number();
     }
     leave(post_in(state).wait(ms, flash, reply), state, count)
 }

@@ -1,10 +1,10 @@
 // What a screen, or a file of the flash, needs of a post that is kept as bytes.
 ghost use Rattle.std.specs.Prelude.{◌≡◌};
-ghost use Rattle.kept_post.specs.Kept.{type_in, seen_as, view_in};
+ghost use Rattle.kept_post.specs.Kept.{stand_number, type_in, seen_as, view_in};
 
 use crate::kept::post_in;
 use crate::record;
-use posts::View;
+use posts::{Stand, View};
 
 pub fn view(
     state: &[u8],
@@ -26,16 +26,28 @@ pub fn view(
     *written = view.written;
     *dropped = post.dropped;
     *idle = posts::is_idle(post);
-    view.stand
+    number_of(view.stand)
+}
+
+// How far the session is, by its number.
+fn number_of(stand: Stand) -> u8
+    ensures { result ≡ stand_number stand }
+{
+    match stand {
+        Stand::Closed => 0,
+        Stand::Ready => 1,
+        Stand::Begun => 2,
+        Stand::Loading => 3,
+        Stand::Done => 4,
+    }
 }
 
 // The type of the transfer; 0 where there is none.
 fn type_of(view: View) -> u16
     ensures { result ≡ type_in view }
 {
-    let kind = view.kind;
-    if view.stand < 2 {
-        return 0;
+    match view.kind {
+        None => 0,
+        Some(kind) => kinds::number_of(kind),
     }
-    kinds::number_of(kind)
 }

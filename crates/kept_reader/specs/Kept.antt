@@ -1,7 +1,7 @@
 -- A reader as bytes: three words, count, opened and pending, and behind them the store of 1,035 bytes.
 use Rattle.std.specs.Prelude.{ℕ, Bool, true, false, cond, ◌&&◌, List, [], ◌∷◌, ◌++◌, eqb, leb, ltb, length}
 use Rattle.octets.specs.Octets.{number_at, part_of, over}
-use Rattle.refusals.specs.Refusals.{no_room}
+use Rattle.refusals.specs.Refusals.{no_room, refusal_number}
 use Rattle.wire.specs.Frame.{longest_content}
 use Rattle.flat.specs.Words.{spelled_all, low_half}
 use Rattle.flat.specs.Answers.{nothing}
@@ -66,7 +66,7 @@ pub record Begun : Type 0 where
 
 unfoldable pub kept_new : List ℕ → Begun
 kept_new state =
-    cond (ltb (length state) reader_bytes) (record { answer = no_room; state = state })
+    cond (ltb (length state) reader_bytes) (record { answer = refusal_number no_room; state = state })
     (record { answer = nothing; state = over (bytes_of fresh) state })
 
 -- What a byte answers and leaves.
@@ -87,5 +87,5 @@ kept_after s state =
 
 unfoldable pub kept_step : List ℕ → ℕ → Kept
 kept_step state byte =
-    cond (ltb (length state) reader_bytes) (record { answer = no_room; command = 0; count = 0; state = state })
+    cond (ltb (length state) reader_bytes) (record { answer = refusal_number no_room; command = 0; count = 0; state = state })
     (kept_after (step_of (reader_in state) byte) state)

@@ -18,6 +18,7 @@ ghost use Rattle.kept_reader.specs.Kept.{
 };
 
 use reader::{Heard, Reader};
+use refusals::Refusal;
 use wire::CONTENT_MOST;
 
 // Where each number of the record stands, and how long the record is.
@@ -41,7 +42,7 @@ pub fn new(state: &mut [u8]) -> u8
     ensures { record { answer = result; state = state.new } ≡ kept_new state.old }
 {
     if state.len() < READER_BYTES {
-        return refusals::NO_ROOM;
+        return Refusal::NoRoom.number();
     }
     keep(Reader::new(), state);
     flat::NOTHING
@@ -55,7 +56,7 @@ pub fn step(state: &mut [u8], byte: u8, command: &mut u8, count: &mut usize) -> 
     if state.len() < READER_BYTES {
         *command = 0;
         *count = 0;
-        return refusals::NO_ROOM;
+        return Refusal::NoRoom.number();
     }
     let stepped = reader_in(state).step(byte);
     let heard = stepped.heard;

@@ -1,9 +1,7 @@
 -- The three types of image as document 01 has them. Their names are those of document 001's table of types.
-use Rattle.std.specs.Prelude.{ℕ, ◌+◌, ◌%◌, Bool, cond, ◌&&◌, eqb, leb}
+use Rattle.std.specs.Prelude.{ℕ, ◌+◌, ◌%◌, Bool, cond, ◌&&◌, eqb, leb, None, Option, Some}
 use Rattle.kinds.specs.declared.Kind.{Kind}
 use Rattle.kinds.specs.declared.Kind.TheVariants.{Navigation, Upgrade, Parameters}
-use Rattle.kinds.specs.declared.Known.{Known}
-use Rattle.kinds.specs.declared.Known.TheVariants.{Is, Unknown}
 
 -- Type 1 is navigation code, type 2 the upgrade code itself, type 3 the working parameters.
 abbrev pub number_of : Kind → ℕ
@@ -11,8 +9,8 @@ number_of Navigation = 1
 number_of Upgrade = 2
 number_of Parameters = 3
 
-unfoldable pub kind_of : ℕ → Known
-kind_of n = cond (eqb n 1) (Is Navigation) (cond (eqb n 2) (Is Upgrade) (cond (eqb n 3) (Is Parameters) Unknown))
+unfoldable pub kind_of : ℕ → Option Kind
+kind_of n = cond (eqb n 1) (Some Navigation) (cond (eqb n 2) (Some Upgrade) (cond (eqb n 3) (Some Parameters) None))
 
 -- Type and address pair as 1: 0x8000, 2: 0x0000, 3: 0x3E000.
 abbrev pub base_of : Kind → ℕ

@@ -1,17 +1,15 @@
 -- The laws of Kinds.
-use Rattle.std.specs.Prelude.{ℕ, ◌+◌, ◌^◌, ◌≤◌, ◌<◌, true, ◌≡◌, refl, eqb, leb}
+use Rattle.std.specs.Prelude.{ℕ, ◌+◌, ◌^◌, ◌≤◌, ◌<◌, true, ◌≡◌, refl, eqb, leb, None, Option, Some}
 use Rattle.std.proofs.Common.{ap, ◌∙◌, arith, leb-true, le-leb, eqb-true}
 use Rattle.octets.proofs.Choice.{both, either_way}
 use Rattle.kinds.specs.Kinds.{kind_of, number_of, base_of, fits_file, fits_flash, longest_image}
 use Rattle.kinds.specs.declared.Kind.{Kind}
 use Rattle.kinds.specs.declared.Kind.TheVariants.{Navigation, Upgrade, Parameters}
-use Rattle.kinds.specs.declared.Known.{Known}
-use Rattle.kinds.specs.declared.Known.TheVariants.{Is, Unknown}
 
 -- The number of a known kind; no kind has 0.
-abbrev known_number : Known → ℕ
-known_number (Is k) = number_of k
-known_number Unknown = 0
+abbrev known_number : Option Kind → ℕ
+known_number (Some k) = number_of k
+known_number None = 0
 
 unknown : (k : Kind) → 0 ≡ number_of k → ⊥
 unknown Navigation e = omega (arith, e)
@@ -19,22 +17,22 @@ unknown Upgrade e = omega (arith, e)
 unknown Parameters e = omega (arith, e)
 
 -- The number of a kind is read as the kind.
-pub kind_of_number : (k : Kind) → kind_of (number_of k) ≡ Is k
+pub kind_of_number : (k : Kind) → kind_of (number_of k) ≡ Some k
 unfolding kind_of
 kind_of_number Navigation = refl
 kind_of_number Upgrade = refl
 kind_of_number Parameters = refl
 
 -- A number that is read as a kind is the number of that kind.
-pub number_of_kind : (n : ℕ) (k : Kind) → kind_of n ≡ Is k → n ≡ number_of k
+pub number_of_kind : (n : ℕ) (k : Kind) → kind_of n ≡ Some k → n ≡ number_of k
 unfolding kind_of
 number_of_kind n k =
     either_way Numbers (eqb n 1) (λ e h. eqb-true n 1 e ∙ ap known_number h)
     (λ _. either_way Numbers (eqb n 2) (λ e h. eqb-true n 2 e ∙ ap known_number h)
     (λ _. either_way Numbers (eqb n 3) (λ e h. eqb-true n 3 e ∙ ap known_number h) (λ _ h. absurd (unknown k (ap known_number h)))))
   where
-    Numbers : Known → Type 0
-    Numbers known = known ≡ Is k → n ≡ number_of k
+    Numbers : Option Kind → Type 0
+    Numbers known = known ≡ Some k → n ≡ number_of k
 
 -- The number of a kind fits two bytes, its address four.
 pub kind_spelled : (k : Kind) → (number_of k < 256 ^ 2) × (base_of k < 256 ^ 4)

@@ -4,7 +4,9 @@
 ghost use Rattle.std.specs.Prelude.{◌≡◌};
 ghost use Rattle.kinds.specs.Kinds.{kind_of, number_of, base_of, token_of, fits_file, fits_flash};
 
-#[derive(Clone, Copy)]
+use std::fmt;
+
+#[derive(Clone, Copy, Debug, PartialEq, Eq)]
 pub enum Kind {
     Navigation,
     Upgrade,
@@ -14,21 +16,26 @@ pub enum Kind {
 // The longest image.
 const IMAGE_MOST: usize = 262143;
 
-// The kind of a type number, if there is one.
-#[derive(Clone, Copy)]
-pub enum Known {
-    Is(Kind),
-    Unknown,
+// A kind in words, for people.
+impl fmt::Display for Kind {
+    fn fmt<W: fmt::Write>(&self, f: &mut fmt::Formatter<W>) -> fmt::Result {
+        f.write_str(match self {
+            Kind::Navigation => "navigation code",
+            Kind::Upgrade => "upgrade code",
+            Kind::Parameters => "working parameters",
+        })
+    }
 }
 
-pub fn kind_of(number: u16) -> Known
+// The kind of a type number, if there is one.
+pub fn kind_of(number: u16) -> Option<Kind>
     ensures { result ≡ kind_of number }
 {
     match number {
-        1 => Known::Is(Kind::Navigation),
-        2 => Known::Is(Kind::Upgrade),
-        3 => Known::Is(Kind::Parameters),
-        _ => Known::Unknown,
+        1 => Some(Kind::Navigation),
+        2 => Some(Kind::Upgrade),
+        3 => Some(Kind::Parameters),
+        _ => None,
     }
 }
 

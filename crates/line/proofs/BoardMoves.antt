@@ -1,5 +1,5 @@
 -- A step of the module keeps how all stands together.
-use Rattle.std.specs.Prelude.{ℕ, ◌+◌, ◌*◌, ◌-◌, ◌≤◌, ◌<◌, Bool, true, ◌⊎◌, ◌≡◌, refl, length}
+use Rattle.std.specs.Prelude.{ℕ, ◌+◌, ◌*◌, ◌-◌, ◌≤◌, ◌<◌, Bool, true, ◌⊎◌, ◌≡◌, refl, length, None, Option, Some}
 use mathlib.Core.List.Memᴰ
 use mathlib.Core.List.{List, ◌++◌, Memᴰ}
 use Rattle.std.proofs.Common.{⊎_elim, sym, ap, ◌∙◌, zero-mul, arith}
@@ -9,8 +9,6 @@ use Rattle.kinds.specs.Kinds.{kind_of, base_of, longest_image}
 use Rattle.kinds.specs.KindsLaws.{kind_of_number}
 use Rattle.kinds.specs.declared.Kind.{Kind}
 use Rattle.kinds.specs.declared.Kind.TheVariants.{Navigation}
-use Rattle.kinds.specs.declared.Known.{Known}
-use Rattle.kinds.specs.declared.Known.TheVariants.{Is, Unknown}
 use Rattle.pieces.specs.Pieces.{offset_of, size_at, piece_of}
 use Rattle.pieces.specs.PiecesLaws.{within, length_piece, size_before, size_last, last_offset, product_step}
 use Rattle.wire.specs.Frame.{Frame, frame}
@@ -46,9 +44,9 @@ command_of (event.Frame command count) = command
 command_of (event.Elapsed ms) = 0
 
 -- The type that was found.
-abbrev found_kind : Known → Kind
-found_kind (Is k) = k
-found_kind Unknown = Navigation
+abbrev found_kind : Option Kind → Kind
+found_kind (Some k) = k
+found_kind None = Navigation
 
 module _ (kind : Kind) (w : Wishes) (image before : List ℕ) where
   abbrev base : ℕ

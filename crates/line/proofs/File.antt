@@ -1,4 +1,5 @@
 -- L1: whatever the line does, once the host has taken the notice the file is in the flash.
+use Rattle.refusals.specs.declared.Refusal.{Refusal}
 use Prim.Native.Nat.{ℕ}
 use Rattle.std.specs.Prelude.{Bool, ◌≡◌, ltb, length, take}
 use Rattle.std.proofs.Math.Bool.{true, false}
@@ -176,10 +177,10 @@ module _ (kind : Kind) (w : Wishes) (image before : List ℕ) where
     first_stands AtOnce first = tt
 
     -- A refused opening has sent nothing.
-    refused_stands : (number : ℕ) (output : List ℕ) → arises (ended_of (length image)) ≡ true
-        → Stand kind w image before (joined (left (stepped (ended_of (length image)) (Refused number)) output) s before)
-    refused_stands number output sound =
-        opened (left (stepped (ended_of (length image)) (Refused number)) output) sound refl tt
+    refused_stands : (refusal : Refusal) (output : List ℕ) → arises (ended_of (length image)) ≡ true
+        → Stand kind w image before (joined (left (stepped (ended_of (length image)) (Refused refusal)) output) s before)
+    refused_stands refusal output sound =
+        opened (left (stepped (ended_of (length image)) (Refused refusal)) output) sound refl tt
         (λ f m. absurd (mathlib.Core.List.Memᴰ.not-nil (rw heard_nothing at m)))
 
     plan_opened : (output : List ℕ) → arises (plan_opening (plan_of kind w) image output).session ≡ true

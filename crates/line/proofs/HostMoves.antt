@@ -1,5 +1,6 @@
 -- A step of the host keeps how all stands together.
-use Rattle.std.specs.Prelude.{ℕ, ◌≤◌, Bool, true, ◌≡◌, refl, length, take}
+use Rattle.host_model.specs.declared.plan.Rate.{Rate}
+use Rattle.std.specs.Prelude.{ℕ, ◌≤◌, Bool, true, ◌≡◌, refl, length, take, None, Option, Some}
 use Rattle.std.proofs.lemmas.Bool.{false≢true}
 use mathlib.Core.List.{List, [], ◌∷◌, append-nil, Memᴰ}
 use Rattle.std.proofs.Common.{⊎_elim, sym, ap, ◌∙◌, arith}
@@ -32,8 +33,6 @@ use Rattle.host.specs.StepLaws.{arisen, step_phase}
 use Rattle.host_promises.specs.Runs.{Given, leaves, sent_by}
 use Rattle.host_model.specs.Events.{count_in}
 use Rattle.host_model.specs.Views.{stage_rate, ended_at_rate}
-use Rattle.host_model.specs.declared.views.LineRate.{LineRate}
-use Rattle.host_model.specs.declared.views.LineRate.TheVariants.{AsItWas, At}
 use Rattle.host_promises.proofs.Arises.{step_arises, arises_wait}
 use Rattle.host_promises.proofs.Turns.{every_turn}
 use Rattle.host_promises.specs.Promises.{Hears, Follows, started, agreed, lowered, declared, continued, noticed}
@@ -172,9 +171,9 @@ module _ (kind : Kind) (w : Wishes) (image : List ℕ) where
       follows stage (noticed r size here hears next) = rw next (from _ hears)
 
       -- A load that failed has ended, whatever rate it keeps.
-      rate_stands : (type : Kind) (line : LineRate) → HostStands kind w image h.begun j.from_board (ended_at_rate type line)
-      rate_stands type AsItWas = tt
-      rate_stands type (At at) = tt
+      rate_stands : (type : Kind) (line : Option Rate) → HostStands kind w image h.begun j.from_board (ended_at_rate type line)
+      rate_stands type None = tt
+      rate_stands type (Some r) = tt
 
       -- A message is sent.
       sends_stands : (message : List ℕ) (next : Session) (answer : Answer) → Message wait g message next answer

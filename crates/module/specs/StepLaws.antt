@@ -1,5 +1,6 @@
 -- The laws of Step: wire forms written into the reply buffer, one behind the other.
-use Rattle.std.specs.Prelude.{ℕ, ◌+◌, ◌-◌, ◌≤◌, ◌<◌, true, false, ◌≡◌, refl, take, drop}
+use Rattle.refusals.specs.declared.Refusal.{Refusal}
+use Rattle.std.specs.Prelude.{ℕ, ◌+◌, ◌-◌, ◌≤◌, ◌<◌, true, false, ◌≡◌, refl, take, drop, Err, Ok, Result}
 use mathlib.Core.List.{List, [], ◌∷◌, ◌++◌, append_assoc, append-nil}
 use Rattle.std.proofs.Common.{sym, ◌∙◌, arith, length-append, length-drop, drop_of_length-le, drop_at, drop-drop}
 use Rattle.std.proofs.Math.Path.{ap}
@@ -11,8 +12,6 @@ use Rattle.octets.proofs.OctetsLaws.{over_nil, take_over}
 use Rattle.refusals.specs.Refusals.{no_room, wrong_length}
 use Rattle.refusals.specs.Written.{Out}
 use Rattle.refusals.specs.Written as written
-use Rattle.refusals.specs.declared.Written.{Written}
-use Rattle.refusals.specs.declared.Written.TheVariants as writes
 use Rattle.wire.specs.Frame.{Frame, content_of, wire_of}
 use Rattle.wire.specs.Write.{write_of}
 use Rattle.wire.specs.WriteLaws.{wire_size, wire_most, write_done}
@@ -48,15 +47,15 @@ module _ (f : Frame) (before : List ℕ) (few : length f.payload ≤ short_paylo
   written_done : write_of f before ≡ written.written (wire_of f) before
   written_done = write_done f before (omega arith) (omega (arith, wire_most f))
 
-  pub wrote_one : (answer : Written) (n : ℕ) (after : List ℕ) → record { answer = answer; output = after } ≡ write_of f before
-      → answer ≡ writes.Count n → Wrote f n before after
+  pub wrote_one : (answer : Result ℕ Refusal) (n : ℕ) (after : List ℕ) → record { answer = answer; output = after } ≡ write_of f before
+      → answer ≡ Ok n → Wrote f n before after
   wrote_one answer n after e told =
       let all : ◌≡◌ {A = Out} (record { answer = answer; output = after }) (written.written (wire_of f) before) = e ∙ written_done in
       let count : n ≡ length (wire_of f) = ap written.count_in (sym told) ∙ ap (λ o. written.count_in o.answer) all in
       record { count = count; most = omega (arith, count, wire_most f); front = ap (λ o. o.output) all }
 
-  pub wrote_never : (answer : Written) (n : ℕ) (after : List ℕ) → record { answer = answer; output = after } ≡ write_of f before
-      → answer ≡ writes.Refused n → ⊥
+  pub wrote_never : (answer : Result ℕ Refusal) (n : Refusal) (after : List ℕ) → record { answer = answer; output = after } ≡ write_of f before
+      → answer ≡ Err n → ⊥
   unfolding wire_of
   wrote_never answer n after e told =
       let none : 0 ≡ length (wire_of f) = ap written.count_in (sym told) ∙ ap (λ o. written.count_in o.answer) (e ∙ written_done) in

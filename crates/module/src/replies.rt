@@ -8,7 +8,7 @@ ghost use Rattle.module.specs.Step.{smallest_reply, wires_of, answer_of};
 ghost use Rattle.module.specs.StepLaws.{short_payload, short_wire, Wrote};
 
 use module_model::{Answer, Say};
-use refusals::Written;
+use refusals::Refusal;
 
 // Writes what is to be said at the front of the reply buffer.
 pub(crate) fn send(say: Say, reply: &mut [u8]) -> Answer
@@ -58,7 +58,7 @@ fn one(command: u8, payload: &[u8], reply: &mut [u8]) -> usize
 {
     let written = wire::write(command, payload, reply);
     match written {
-        Written::Count(n) => n,
-        Written::Refused(_) => 0,
+        Ok(n) => n,
+        Err(_) => 0,
     }
 }

@@ -9,9 +9,9 @@ ghost use Rattle.module_model.specs.Rules.{done_decision, phase_decision, packet
 ghost use Rattle.module_model.specs.Bounds.{Bounded, BoundedPhase};
 
 use commands::LARGEST_PACKET;
-use kinds::{Kind, Known};
+use kinds::Kind;
 use module_model::{
-    ADDRESS_AT, Decision, LENGTH_AT, Numbers, PACKET_HEAD, PARAMETERS_LENGTH, Phase, Pieces, Put,
+    ADDRESS_AT, Decision, LENGTH_AT, Numbers, PACKET_HEAD, PARAMETERS_LENGTH, Phase, Pieces,
     STATE_SHORT, STATE_WHOLE, Say, TYPE_AT, Transfer,
 };
 
@@ -30,12 +30,12 @@ pub(crate) fn decide(phase: Phase, command: u8, payload: &[u8], flash: &[u8]) ->
 }
 
 // Puts the data of a packet, which stand behind its three numbers, where they go.
-pub(crate) fn store(place: Put, payload: &[u8], flash: &mut [u8])
+pub(crate) fn store(place: Option<usize>, payload: &[u8], flash: &mut [u8])
     ensures { flash.new ≡ put_of place payload.now flash.old }
 {
     match place {
-        Put::Nowhere => {}
-        Put::At(at) => octets::copy(octets::behind(payload, PACKET_HEAD), flash, at),
+        None => {}
+        Some(at) => octets::copy(octets::behind(payload, PACKET_HEAD), flash, at),
     }
 }
 
@@ -46,7 +46,7 @@ fn unmoved_say(phase: Phase, say: Say) -> Decision
     Decision {
         phase: phase,
         say: say,
-        put: Put::Nowhere,
+        put: None,
     }
 }
 
@@ -100,8 +100,8 @@ fn parameters(phase: Phase, payload: &[u8], flash: usize) -> Decision
     }
     let known = kinds::kind_of(octets::two_at(payload, TYPE_AT));
     match known {
-        Known::Is(kind) => parameters_of(phase, kind, payload, flash),
-        Known::Unknown => unmoved_say(
+        Some(kind) => parameters_of(phase, kind, payload, flash),
+        None => unmoved_say(
             phase,
             Say::Parameters {
                 ack: commands::WRONG_FIRST,
@@ -301,7 +301,7 @@ fn repeat(
     ensures { result ≡ repeat_decision phase pieces number given bytes.now flash.now }
 {
     if is_repeat(pieces, number, given, bytes, flash) {
-        return acknowledge(phase, number, Put::Nowhere);
+        return acknowledge(phase, number, None);
     }
     packet_refused(phase)
 }
@@ -340,10 +340,10 @@ fn taken_at(pieces: Pieces, number: usize, written: usize) -> Decision
     ensures { result ≡ taken pieces number written }
 {
     let phase = phase_at(pieces, number, written);
-    acknowledge(phase, number, Put::At(place_of(pieces, number)))
+    acknowledge(phase, number, Some(place_of(pieces, number)))
 }
 
-fn acknowledge(phase: Phase, number: usize, put: Put) -> Decision
+fn acknowledge(phase: Phase, number: usize, put: Option<usize>) -> Decision
     ensures { result ≡ acknowledge_of phase number put }
 {
     Decision {

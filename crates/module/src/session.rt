@@ -11,6 +11,7 @@ use module_model::{
     Answer, CLOSING_IDLE, Event, LARGEST_FLASH, LONGEST_IDLE, Phase, Pieces, SMALLEST_REPLY,
     Transfer,
 };
+use refusals::Refusal;
 
 // The idle sum after a frame.
 const SUM_ANEW: u32 = 0;
@@ -51,7 +52,7 @@ impl Session {
                 idle: 0,
                 phase: Phase::Closed,
             },
-            answer: Answer::Refused(refusals::WRONG_LENGTH),
+            answer: Answer::Refused(Refusal::WrongLength),
         }
     }
 
@@ -72,10 +73,10 @@ impl Session {
             ≡ step_of self event payload.now flash.old reply.old }
     {
         if reply.len() < SMALLEST_REPLY {
-            return self.answers(Answer::Refused(refusals::NO_ROOM));
+            return self.answers(Answer::Refused(Refusal::NoRoom));
         }
         if flash.len() != self.flash {
-            return self.answers(Answer::Refused(refusals::WRONG_LENGTH));
+            return self.answers(Answer::Refused(Refusal::WrongLength));
         }
         if !self.is_open() {
             return self.answers(Answer::Nothing);

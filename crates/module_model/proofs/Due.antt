@@ -1,5 +1,5 @@
 -- What is decided where the facts for it hold: parameters that fit are accepted, the packet that is due is taken.
-use Rattle.std.specs.Prelude.{ℕ, zero, suc, ◌+◌, ◌*◌, ◌-◌, ◌^◌, ◌≤◌, ◌<◌, true, false, cond, List, ◌≡◌, refl, eqb, length}
+use Rattle.std.specs.Prelude.{ℕ, zero, suc, ◌+◌, ◌*◌, ◌-◌, ◌^◌, ◌≤◌, ◌<◌, true, false, cond, List, ◌≡◌, refl, eqb, length, None, Option}
 use Rattle.std.proofs.Common.{sym, ap, ◌∙◌, zero-mul, arith, eq-eqb, ne_eqb}
 use Rattle.octets.specs.Octets.{number_at, spelled, part_of}
 use Rattle.octets.proofs.OctetsLaws.{little_spelled}
@@ -25,8 +25,6 @@ use Rattle.module_model.specs.declared.phases.Phase.{Phase}
 use Rattle.module_model.specs.declared.phases.Phase.TheVariants.{Begun, Loading, Done}
 use Rattle.module_model.specs.declared.rules.Say.TheVariants as say
 use Rattle.module_model.specs.declared.rules.Numbers.{Numbers}
-use Rattle.module_model.specs.declared.rules.Put.{Put}
-use Rattle.module_model.specs.declared.rules.Put.TheVariants.{Nowhere}
 use Rattle.module_model.specs.declared.rules.Decision.{Decision}
 
 -- ---- parameters
@@ -245,7 +243,7 @@ belongs_packet p number payload n k =
 -- A decision confirms a packet, whatever is put and whichever phase follows.
 pub record Confirms (d : Decision) (number : ℕ) : Type 0 where
   pub phase : Phase
-  pub put : Put
+  pub put : Option ℕ
   pub is : d ≡ acknowledge_of phase number put
 
 -- The expected packet is confirmed,
@@ -293,7 +291,7 @@ repeat_confirmed phase p number payload flash n accepted_now k same = go accepte
         packet_no p (number + 1) given (λ f. omega (arith, f.this, (belongs_packet p number payload n k).this)) in
         record {
           phase = now;
-          put = Nowhere;
+          put = None;
           is =
               ap (λ (x : Phase). decide_of x packet_command payload flash) e
               ∙ belongs_decided now p number payload flash n k
@@ -304,7 +302,7 @@ repeat_confirmed phase p number payload flash n accepted_now k same = go accepte
         let now = Done p p.transfer.extent in
         record {
           phase = now;
-          put = Nowhere;
+          put = None;
           is =
               ap (λ (x : Phase). decide_of x packet_command payload flash) e
               ∙ belongs_decided now p number payload flash n k

@@ -1,5 +1,5 @@
 -- What a frame can do to a phase that could arise, as five outcomes with the facts of each.
-use Rattle.std.specs.Prelude.{ℕ, ◌+◌, ◌*◌, ◌-◌, ◌≤◌, ◌<◌, true, List, ◌≡◌, eqb}
+use Rattle.std.specs.Prelude.{ℕ, ◌+◌, ◌*◌, ◌-◌, ◌≤◌, ◌<◌, true, List, ◌≡◌, eqb, None, Option, Some}
 use Rattle.std.proofs.Math.Path.{refl, sym, ap}
 use Rattle.std.proofs.Common.{◌∙◌, le_refl, length-drop}
 use native.Mathlib.Omega.{arith}
@@ -11,8 +11,6 @@ use Rattle.octets.proofs.PartLaws.{number_short}
 use Rattle.kinds.specs.Kinds.{kind_of, token_of, fits_flash}
 use Rattle.kinds.specs.KindsLaws.{FitsFlash, fits_flash_law}
 use Rattle.kinds.specs.declared.Kind.{Kind}
-use Rattle.kinds.specs.declared.Known.{Known}
-use Rattle.kinds.specs.declared.Known.TheVariants.{Is, Unknown}
 use Rattle.pieces.specs.Pieces.{offset_of, size_at}
 use Rattle.pieces.specs.PiecesLaws.{size_first}
 use Rattle.commands.specs.Commands.{largest_packet, largest_total, rate_command, parameters_command, packet_command, restart_command}
@@ -30,7 +28,6 @@ use Rattle.module_model.specs.declared.phases.Phase.{Phase}
 use Rattle.module_model.specs.declared.phases.Phase.TheVariants.{Closed, Ready, Begun, Loading, Done}
 use Rattle.module_model.specs.declared.rules.Say.{Say}
 use Rattle.module_model.specs.declared.rules.Say.TheVariants.{Nothing, Rate, Parameters, Packet, Last, Restart}
-use Rattle.module_model.specs.declared.rules.Put.TheVariants.{Nowhere}
 use Rattle.module_model.specs.declared.rules.Decision.{Decision}
 
 -- ---- the outcomes
@@ -75,13 +72,13 @@ pub data Accepted (phase : Phase) (p : Pieces) (number : ℕ) : Type 0 where
 pub data Outcome (phase : Phase) (command : ℕ) (payload flash : List ℕ) (d : Decision) : Type 0 where
   stays : (say : Say) → Plain say → d ≡ unmoved phase say → Outcome phase command payload flash d
   restarts : command ≡ restart_command → d ≡ unmoved Closed (Restart accepted) → Outcome phase command payload flash d
-  begins : (t : Transfer) → command ≡ parameters_command → kind_of (type_field payload) ≡ Is t.kind → length_field payload ≡ t.extent
+  begins : (t : Transfer) → command ≡ parameters_command → kind_of (type_field payload) ≡ Some t.kind → length_field payload ≡ t.extent
       → FitsFlash t.kind t.extent (length flash) → d ≡ unmoved (Begun t) (Parameters accepted)
       → Outcome phase command payload flash d
   advances : (p : Pieces) (number : ℕ) → command ≡ packet_command → Expects phase p number → Belongs p number payload (length flash)
       → d ≡ taken p number (offset_of p.size number + length (data_in payload)) → Outcome phase command payload flash d
   repeats : (p : Pieces) (number : ℕ) → command ≡ packet_command → Accepted phase p number → Belongs p number payload (length flash)
-      → data_in payload ≡ part_of flash (place_of p number) (length (data_in payload)) → d ≡ acknowledge_of phase number Nowhere
+      → data_in payload ≡ part_of flash (place_of p number) (length (data_in payload)) → d ≡ acknowledge_of phase number None
       → Outcome phase command payload flash d
 
 -- ---- the commands, one by one
@@ -102,7 +99,7 @@ module _ (phase : Phase) (command : ℕ) (payload flash : List ℕ) where
   restart_outcome c =
       either_way Out (eqb (length payload) 0) (λ e. restarts c refl) (λ e. plain (Restart not_understood) (omega arith))
 
-  kind_outcome : (k : Kind) → command ≡ parameters_command → kind_of (type_field payload) ≡ Is k
+  kind_outcome : (k : Kind) → command ≡ parameters_command → kind_of (type_field payload) ≡ Some k
       → Out (kind_decision phase k payload (length flash))
   unfolding kind_decision
   kind_outcome k c e =
@@ -112,10 +109,10 @@ module _ (phase : Phase) (command : ℕ) (payload flash : List ℕ) where
       (λ f. plain (Parameters wrong_second) (omega arith)))
       (λ t. plain (Parameters not_understood) (omega arith))
 
-  known_outcome : (k : Known) → command ≡ parameters_command → kind_of (type_field payload) ≡ k
+  known_outcome : (k : Option Kind) → command ≡ parameters_command → kind_of (type_field payload) ≡ k
       → Out (known_decision phase k payload (length flash))
-  known_outcome (Is k) c e = kind_outcome k c e
-  known_outcome Unknown c e = plain (Parameters wrong_first) (omega arith)
+  known_outcome (Some k) c e = kind_outcome k c e
+  known_outcome None c e = plain (Parameters wrong_first) (omega arith)
 
   parameters_outcome : command ≡ parameters_command → Out (parameters_decision phase payload (length flash))
   unfolding parameters_decision

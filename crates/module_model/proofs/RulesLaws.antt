@@ -1,5 +1,5 @@
 -- The laws of Rules.
-use Rattle.std.specs.Prelude.{ℕ, ◌+◌, ◌*◌, ◌-◌, ◌≤◌, true, false, ◌&&◌, List, ◌≡◌, refl, eqb, leb, length, get_or}
+use Rattle.std.specs.Prelude.{ℕ, ◌+◌, ◌*◌, ◌-◌, ◌≤◌, true, false, ◌&&◌, List, ◌≡◌, refl, eqb, leb, length, get_or, None}
 use Rattle.std.proofs.Math.Bool.{not-eq-not}
 use Rattle.std.proofs.Common.{sym, ap, ◌∙◌, mul-le-mul, arith, le-leb, leb-true, eq-eqb, ne_eqb, eqb-true}
 use Rattle.std.proofs.Math.Decide.{ℕ_discrete}
@@ -24,7 +24,6 @@ use Rattle.module_model.specs.declared.phases.Pieces.{Pieces}
 use Rattle.module_model.specs.declared.phases.Phase.{Phase}
 use Rattle.module_model.specs.declared.phases.Phase.TheVariants.{Closed, Begun, Loading, Done}
 use Rattle.module_model.specs.declared.rules.Say.TheVariants.{Nothing, Rate, Parameters, Restart}
-use Rattle.module_model.specs.declared.rules.Put.TheVariants.{Nowhere}
 use Rattle.module_model.specs.declared.rules.Numbers.{Numbers}
 
 -- ---- 0x01
@@ -275,7 +274,7 @@ place_small p number one most small =
 -- A repeat is acknowledged and nothing put, any other packet refused.
 pub repeat_taken : (phase : Phase) (p : Pieces) (number : ℕ) (given : Numbers) (bytes flash : List ℕ)
     → is_repeat p number given bytes flash ≡ true
-    → repeat_decision phase p number given bytes flash ≡ acknowledge_of phase number Nowhere
+    → repeat_decision phase p number given bytes flash ≡ acknowledge_of phase number None
 unfolding repeat_decision
 repeat_taken phase p number given bytes flash h = cond_yes _ _ _ h
 

@@ -1,4 +1,5 @@
 -- What each case of an answer says, in numbers.
+use Rattle.refusals.specs.Refusals.{refusal_number}
 use Rattle.std.specs.Prelude.{ℕ, Bool, true, false}
 use Rattle.refusals.specs.Written.{bytes_written}
 use Rattle.module_model.specs.declared.events.Answer.{Answer}
@@ -8,15 +9,15 @@ use Rattle.module_model.specs.declared.events.Answer.TheVariants.{Nothing, Sent,
 abbrev pub number_in : Answer → ℕ
 number_in Nothing = 0
 number_in (Sent n) = bytes_written
-number_in (Refused number) = number
+number_in (Refused refusal) = refusal_number refusal
 
 -- How many bytes are sent.
 abbrev pub count_in : Answer → ℕ
 count_in Nothing = 0
 count_in (Sent n) = n
-count_in (Refused n) = 0
+count_in (Refused refusal) = 0
 
 abbrev pub is_refused : Answer → Bool
 is_refused Nothing = false
 is_refused (Sent n) = false
-is_refused (Refused n) = true
+is_refused (Refused refusal) = true

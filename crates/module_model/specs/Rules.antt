@@ -1,10 +1,8 @@
 -- The rules of the four commands: what a frame given to an open session does to its phase, what is said, what is put where.
-use Rattle.std.specs.Prelude.{ℕ, ◌+◌, Bool, cond, ◌&&◌, List, [], ◌∷◌, eqb, leb, length, get_or, drop}
+use Rattle.std.specs.Prelude.{ℕ, ◌+◌, Bool, cond, ◌&&◌, List, [], ◌∷◌, eqb, leb, length, get_or, drop, None, Option, Some}
 use Rattle.octets.specs.Octets.{number_at, part_of, same_bytes, laid}
 use Rattle.kinds.specs.Kinds.{kind_of, base_of, token_of, fits_flash}
 use Rattle.kinds.specs.declared.Kind.{Kind}
-use Rattle.kinds.specs.declared.Known.{Known}
-use Rattle.kinds.specs.declared.Known.TheVariants.{Is, Unknown}
 use Rattle.pieces.specs.Pieces.{count_of, size_at, offset_of}
 use Rattle.wire.specs.Frame.{Frame}
 use Rattle.commands.specs.Commands.{rate_command, parameters_command, packet_command, restart_command, accepted, wrong_first, wrong_second}
@@ -16,8 +14,6 @@ use Rattle.module_model.specs.declared.phases.Phase.{Phase}
 use Rattle.module_model.specs.declared.phases.Phase.TheVariants.{Closed, Ready, Begun, Loading, Done}
 use Rattle.module_model.specs.declared.rules.Say.{Say}
 use Rattle.module_model.specs.declared.rules.Say.TheVariants.{Nothing, Rate, Parameters, Packet, Last, Restart}
-use Rattle.module_model.specs.declared.rules.Put.{Put}
-use Rattle.module_model.specs.declared.rules.Put.TheVariants.{Nowhere, At}
 use Rattle.module_model.specs.declared.rules.Decision.{Decision}
 use Rattle.module_model.specs.declared.rules.Numbers.{Numbers}
 
@@ -41,15 +37,15 @@ packet_head = 6
 abbrev pub data_in : List ℕ → List ℕ
 data_in payload = drop packet_head payload
 
-abbrev pub put_of : Put → List ℕ → List ℕ → List ℕ
-put_of Nowhere payload flash = flash
-put_of (At place) payload flash = laid flash place (data_in payload)
+abbrev pub put_of : Option ℕ → List ℕ → List ℕ → List ℕ
+put_of None payload flash = flash
+put_of (Some place) payload flash = laid flash place (data_in payload)
 
 -- ---- 0x01, 0x02 and 0x06
 
 -- The phase stays or is as said, and nothing is put.
 abbrev pub unmoved : Phase → Say → Decision
-unmoved phase say = record { phase = phase; say = say; put = Nowhere }
+unmoved phase say = record { phase = phase; say = say; put = None }
 
 -- ACK 00 for rates 1 to 5, else 01.
 unfoldable pub rate_ack : ℕ → ℕ
@@ -83,9 +79,9 @@ kind_decision phase kind payload flash =
     (unmoved phase (Parameters wrong_second)))
     (unmoved phase (Parameters not_understood))
 
-abbrev pub known_decision : Phase → Known → List ℕ → ℕ → Decision
-known_decision phase (Is kind) payload flash = kind_decision phase kind payload flash
-known_decision phase Unknown payload flash = unmoved phase (Parameters wrong_first)
+abbrev pub known_decision : Phase → Option Kind → List ℕ → ℕ → Decision
+known_decision phase (Some kind) payload flash = kind_decision phase kind payload flash
+known_decision phase None payload flash = unmoved phase (Parameters wrong_first)
 
 -- 0x02, payload 10: type, length, address. In order: payload length (10), type (01), address, length.
 unfoldable pub parameters_decision : Phase → List ℕ → ℕ → Decision
@@ -151,17 +147,17 @@ say_of (Begun t) number = Packet number accepted
 say_of (Loading p n written) number = Packet number accepted
 say_of (Done p written) number = Last number (state_of p written)
 
-abbrev pub acknowledge_of : Phase → ℕ → Put → Decision
+abbrev pub acknowledge_of : Phase → ℕ → Option ℕ → Decision
 acknowledge_of phase number put = record { phase = phase; say = say_of phase number; put = put }
 
 -- An accepted packet is written at its place, and the session moves on.
 abbrev pub taken : Pieces → ℕ → ℕ → Decision
-taken p number written = acknowledge_of (phase_at p number written) number (At (place_of p number))
+taken p number written = acknowledge_of (phase_at p number written) number (Some (place_of p number))
 
 -- A repeat is acknowledged again, nothing put; any other packet is refused.
 unfoldable pub repeat_decision : Phase → Pieces → ℕ → Numbers → List ℕ → List ℕ → Decision
 repeat_decision phase p number given bytes flash =
-    cond (is_repeat p number given bytes flash) (acknowledge_of phase number Nowhere) (not_taken phase)
+    cond (is_repeat p number given bytes flash) (acknowledge_of phase number None) (not_taken phase)
 
 -- Before packet 1 only packet 1 is taken; there is no repeat.
 unfoldable pub first_decision : Transfer → Numbers → Decision

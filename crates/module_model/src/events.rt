@@ -1,4 +1,5 @@
 // What a session is given and what it answers.
+use refusals::Refusal;
 
 // The smallest reply buffer.
 pub const SMALLEST_REPLY: usize = 64;
@@ -10,10 +11,10 @@ pub enum Event {
     Elapsed(u32),
 }
 
-// Nothing to send, so many bytes to send at the front of the reply buffer, or refused with a number.
+// Nothing to send, so many bytes to send at the front of the reply buffer, or refused.
 #[derive(Clone, Copy)]
 pub enum Answer {
     Nothing,
     Sent(usize),
-    Refused(u8),
+    Refused(Refusal),
 }

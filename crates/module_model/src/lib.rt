@@ -9,6 +9,6 @@ mod rules;
 pub use events::{Answer, Event, SMALLEST_REPLY};
 pub use phases::{CLOSING_IDLE, LARGEST_FLASH, LONGEST_IDLE, Phase, Pieces, Transfer};
 pub use rules::{
-    ADDRESS_AT, Decision, LENGTH_AT, Numbers, PACKET_HEAD, PARAMETERS_LENGTH, Put, STATE_SHORT,
+    ADDRESS_AT, Decision, LENGTH_AT, Numbers, PACKET_HEAD, PARAMETERS_LENGTH, STATE_SHORT,
     STATE_WHOLE, Say, TYPE_AT,
 };

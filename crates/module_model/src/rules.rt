@@ -29,18 +29,12 @@ pub enum Say {
     Restart { ack: u8 },
 }
 
-// Where the data of an accepted packet go.
-#[derive(Clone, Copy)]
-pub enum Put {
-    Nowhere,
-    At(usize),
-}
-
+// What a frame does: the phase after it, what is said, and where the data of an accepted packet go, if anywhere.
 #[derive(Clone, Copy)]
 pub struct Decision {
     pub phase: Phase,
     pub say: Say,
-    pub put: Put,
+    pub put: Option<usize>,
 }
 
 // The numbers of a packet; its data stand behind them in the payload.

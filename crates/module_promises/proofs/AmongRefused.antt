@@ -12,16 +12,14 @@ use Rattle.module_model.specs.declared.events.Answer.{Answer}
 use Rattle.module_model.specs.declared.events.Answer.TheVariants.{Nothing, Sent, Refused}
 use Rattle.module.specs.declared.session.Session.{Session}
 
--- A refused answer has a number.
-refused_number : (a : Answer) → is_refused a ≡ true → a ≡ Refused (number_in a)
-refused_number Nothing h = absurd (false≢true h)
-refused_number (Sent n) h = absurd (false≢true h)
-refused_number (Refused n) h = refl
-
 -- A refused step leaves the session.
 refused_stays : (s : Session) (g : Given) → is_refused (exchange s g).left.answer ≡ true → next_of s g ≡ s
-refused_stays s g h =
-    ap (λ (l : Left). l.session) (refused_leaves s g (number_in (exchange s g).left.answer) (refused_number (exchange s g).left.answer h))
+refused_stays s g h = go (exchange s g).left.answer refl h
+  where
+    go : (a : Answer) → (exchange s g).left.answer ≡ a → is_refused a ≡ true → next_of s g ≡ s
+    go Nothing e r = absurd (false≢true r)
+    go (Sent n) e r = absurd (false≢true r)
+    go (Refused n) e r = ap (λ (l : Left). l.session) (refused_leaves s g n e)
 
 -- What is taken of a run is carried from one step that is taken to the next.
 taken_carried : (s : Session) (flash : List ℕ) (gs : List Given) → NobodyElse flash (run_of s gs)

@@ -1,11 +1,10 @@
 -- What one exchange does, told by what is heard in its reply: nothing is accepted, or parameters are, or a packet is.
-use Rattle.std.specs.Prelude.{ℕ, ◌-◌, true, false, List, ◌⊎◌, ◌≡◌, refl, leb, length}
+use Rattle.std.specs.Prelude.{ℕ, ◌-◌, true, false, List, ◌⊎◌, ◌≡◌, refl, leb, length, Option, Some}
 use Rattle.std.proofs.Common.{inl, inr, ap, ◌∙◌, arith}
 use Rattle.octets.specs.Octets.{Bytes, number_at, part_of, laid}
 use Rattle.octets.proofs.Choice.{either_way}
 use Rattle.kinds.specs.Kinds.{kind_of}
 use Rattle.kinds.specs.KindsLaws.{FitsFlash}
-use Rattle.kinds.specs.declared.Known.TheVariants.{Is}
 use Rattle.wire.specs.Frame as wire
 use Rattle.commands.specs.Commands.{parameters_command, packet_command, notice}
 use Rattle.module_model.specs.Phases.{longest_idle, total_of}
@@ -28,7 +27,6 @@ use Rattle.module_model.specs.declared.phases.Phase.{Phase}
 use Rattle.module_model.specs.declared.phases.Phase.TheVariants.{Closed, Begun}
 use Rattle.module_model.specs.declared.events.Event.TheVariants.{Frame}
 use Rattle.module_model.specs.declared.events.Answer.TheVariants as answer
-use Rattle.module_model.specs.declared.rules.Put.{Put}
 use Rattle.module_model.specs.declared.rules.Decision.{Decision}
 use Rattle.module.specs.declared.session.Session.{Session}
 use Rattle.module.specs.declared.session.Stepped.{Stepped}
@@ -42,7 +40,7 @@ pub record Declares (x : Exchange) (t : Transfer) : Type 0 where
   pub said : Declaring (heard_of x)
   pub count : ℕ
   pub event_is : x.given.event ≡ Frame parameters_command count
-  pub kind_is : kind_of (number_at 2 (payload_of x.given) 0) ≡ Is t.kind
+  pub kind_is : kind_of (number_at 2 (payload_of x.given) 0) ≡ Some t.kind
   pub length_is : length_in x ≡ t.extent
   pub fitting : FitsFlash t.kind t.extent (length x.given.flash)
   pub same : x.left.flash ≡ x.given.flash
@@ -98,7 +96,7 @@ module _ (s : Session) (g : Given) (command count : ℕ) (d : Decision) (t : tak
   flash_is e is = ap (λ (l : Left). l.flash) left_is ∙ ap (λ (x : Decision). put_of x.put (payload_of g) g.flash) is
 
   -- A packet that belongs to the transfer and leads to a phase that has accepted it.
-  accepts_packet : (p : Pieces) (number : ℕ) (phase : Phase) (put : Put) → command ≡ packet_command
+  accepts_packet : (p : Pieces) (number : ℕ) (phase : Phase) (put : Option ℕ) → command ≡ packet_command
       → Belongs p number (payload_of g) (length g.flash) → Accepted phase p number → d ≡ acknowledge_of phase number put
       → AcceptsPacket s g p number
   accepts_packet p number phase put c k after is =

@@ -1,4 +1,5 @@
 -- What a step can be, and what the frame that an open session is given can do.
+use Rattle.refusals.specs.declared.Refusal.{Refusal}
 use Rattle.std.specs.Prelude.{ℕ, true, false, List, ◌≡◌, refl, eqb, ltb, length}
 use Rattle.std.proofs.Common.{sym, eqb-true}
 use Rattle.octets.specs.Octets.{Bytes}
@@ -18,7 +19,7 @@ use Rattle.module.specs.declared.session.Session.{Session}
 
 -- What a step can be: refused; not taken; time in an open session; a frame in an open session.
 pub data Case (s : Session) (g : Given) (x : Left) : Type 0 where
-  refuses : (n : ℕ) → x ≡ left (stepped s (answer.Refused n)) g.flash g.reply → Case s g x
+  refuses : (n : Refusal) → x ≡ left (stepped s (answer.Refused n)) g.flash g.reply → Case s g x
   sleeps : takes s ≡ false → x ≡ left (stepped s answer.Nothing) g.flash g.reply → Case s g x
   waits : takes s ≡ true → length g.flash ≡ s.flash → (ms : ℕ) → g.event ≡ Elapsed ms → x ≡ left (time_step s ms) g.flash g.reply
       → Case s g x

@@ -1,6 +1,6 @@
 -- Wrong steps that break M2: one writes nothing, one packet 1 only, one does not compare repeats, one does not compare sizes, one writes
 -- one place further on, one writes repeats, one writes type 1 at address 0.
-use Rattle.std.specs.Prelude.{ℕ, ◌+◌, ◌≤◌, ◌<◌, List, [], ◌∷◌, ◌++◌, ◌≡◌, refl, length, get_or, replicate}
+use Rattle.std.specs.Prelude.{ℕ, ◌+◌, ◌≤◌, ◌<◌, List, [], ◌∷◌, ◌++◌, ◌≡◌, refl, length, get_or, replicate, None}
 use mathlib.Core.List.Memᴰ
 use Rattle.std.proofs.Common.{sym, ap, ◌∙◌, arith}
 use Rattle.octets.specs.Octets.{Bytes, number_at, little, spelled, part_of, same_bytes, laid}
@@ -25,7 +25,6 @@ use Rattle.module_promises.proofs.WrongRules.{Rule, step_by, writes_nothing, wri
 use Rattle.module_promises.proofs.WrongRules.{writes_repeats, writes_at_address}
 use Rattle.module_model.specs.declared.phases.Phase.TheVariants.{Ready}
 use Rattle.module_model.specs.declared.events.Event.TheVariants.{Frame}
-use Rattle.module_model.specs.declared.rules.Put.TheVariants.{Nowhere}
 use Rattle.module.specs.declared.session.Session.{Session}
 
 -- ---- what success says, told of parameters that are known
@@ -192,7 +191,7 @@ unfolding opening_of takes alive openable cuts done_arises kind_of fits_flash co
 trusting_heard = (
   heard_performed (opened flash) (compares_nothing Ready 2 declares.payload flash) declares.payload flash declares.reply,
   heard_performed begun4 (compares_nothing begun4.phase 5 sends.payload flash) sends.payload flash sends.reply,
-  heard_performed done4 (rules.acknowledge_of done4.phase 1 Nowhere) other.payload image other.reply,
+  heard_performed done4 (rules.acknowledge_of done4.phase 1 None) other.payload image other.reply,
 )
 
 not_trusting : Told z0 (z1 ∷ z2 ∷ []) z2 → ⊥

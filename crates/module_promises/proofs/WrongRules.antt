@@ -1,5 +1,5 @@
 -- Our step with another rule for frames, and such rules, each a small variation of ours; what is heard of such a step.
-use Rattle.std.specs.Prelude.{ℕ, ◌+◌, ◌-◌, cond, ◌&&◌, List, ◌≡◌, refl, eqb, ltb, length, take}
+use Rattle.std.specs.Prelude.{ℕ, ◌+◌, ◌-◌, cond, ◌&&◌, List, ◌≡◌, refl, eqb, ltb, length, take, None, Option, Some}
 use Rattle.refusals.specs.Refusals.{no_room, wrong_length}
 use Rattle.kinds.specs.Kinds.{base_of, token_of}
 use Rattle.pieces.specs.Pieces.{size_at}
@@ -18,8 +18,6 @@ use Rattle.module_model.specs.declared.events.Answer.TheVariants as answer
 use Rattle.module_model.specs.declared.rules.Say.{Say}
 use Rattle.module_model.specs.declared.rules.Say.TheVariants.{Nothing, Rate, Parameters, Packet, Last, Restart}
 use Rattle.module_model.specs.declared.rules.Numbers.{Numbers}
-use Rattle.module_model.specs.declared.rules.Put.{Put}
-use Rattle.module_model.specs.declared.rules.Put.TheVariants.{Nowhere, At}
 use Rattle.module_model.specs.declared.rules.Decision.{Decision}
 use Rattle.module.specs.declared.session.Session.{Session}
 
@@ -97,24 +95,24 @@ says_early phase command payload flash = let d = decide_of phase command payload
 -- Nothing is written.
 abbrev pub writes_nothing : Rule
 writes_nothing phase command payload flash =
-    let d = decide_of phase command payload flash in record { phase = d.phase; say = d.say; put = Nowhere }
+    let d = decide_of phase command payload flash in record { phase = d.phase; say = d.say; put = None }
 
 -- Packet 1 is written, the others are merely acknowledged.
-abbrev first_put : Phase → Put → Put
-first_put Closed put = Nowhere
-first_put Ready put = Nowhere
+abbrev first_put : Phase → Option ℕ → Option ℕ
+first_put Closed put = None
+first_put Ready put = None
 first_put (Begun t) put = put
-first_put (Loading p number written) put = Nowhere
-first_put (Done p written) put = Nowhere
+first_put (Loading p number written) put = None
+first_put (Done p written) put = None
 
 abbrev pub writes_first : Rule
 writes_first phase command payload flash =
     let d = decide_of phase command payload flash in record { phase = d.phase; say = d.say; put = first_put phase d.put }
 
 -- Data are written one place further on.
-abbrev one_on : Put → Put
-one_on Nowhere = Nowhere
-one_on (At place) = At (place + 1)
+abbrev one_on : Option ℕ → Option ℕ
+one_on None = None
+one_on (Some place) = Some (place + 1)
 
 abbrev pub writes_one_on : Rule
 writes_one_on phase command payload flash =
@@ -127,7 +125,7 @@ uncompared Ready command payload d = d
 uncompared (Begun t) command payload d = d
 uncompared (Loading p number written) command payload d = d
 uncompared (Done p written) command payload d =
-    cond (eqb command packet_command && is_packet p (total_of p) (numbers_in payload)) (acknowledge_of (Done p written) (total_of p) Nowhere) d
+    cond (eqb command packet_command && is_packet p (total_of p) (numbers_in payload)) (acknowledge_of (Done p written) (total_of p) None) d
 
 abbrev pub compares_nothing : Rule
 compares_nothing phase command payload flash = uncompared phase command payload (decide_of phase command payload flash)
@@ -167,7 +165,7 @@ last_at_once Closed command given d = d
 last_at_once Ready command given d = d
 last_at_once (Begun t) command given d =
     cond (eqb command packet_command && eqb given.number given.total)
-    (acknowledge_of (Done (record { transfer = t; size = given.size }) t.extent) given.number Nowhere) d
+    (acknowledge_of (Done (record { transfer = t; size = given.size }) t.extent) given.number None) d
 last_at_once (Loading p number written) command given d = d
 last_at_once (Done p written) command given d = d
 
@@ -201,9 +199,9 @@ drops_transfer phase command payload flash =
     let d = decide_of phase command payload flash in record { phase = dropped d.say d.phase; say = d.say; put = d.put }
 
 -- Data are written at the address that the parameters carry, so 0 for type 1.
-abbrev at_address : Phase → Put → Put
-at_address (Begun t) (At place) = At (place - base_of t.kind + token_of t.kind)
-at_address (Begun t) Nowhere = Nowhere
+abbrev at_address : Phase → Option ℕ → Option ℕ
+at_address (Begun t) (Some place) = Some (place - base_of t.kind + token_of t.kind)
+at_address (Begun t) None = None
 at_address Closed put = put
 at_address Ready put = put
 at_address (Loading p number written) put = put
@@ -214,8 +212,8 @@ writes_at_address phase command payload flash =
     let d = decide_of phase command payload flash in record { phase = d.phase; say = d.say; put = at_address phase d.put }
 
 -- When done, a repeat is written as new data behind the last packet.
-abbrev behind_last : Phase → Say → Put → Put
-behind_last (Done p written) (Last number state) put = At (place_of p (number + 1))
+abbrev behind_last : Phase → Say → Option ℕ → Option ℕ
+behind_last (Done p written) (Last number state) put = Some (place_of p (number + 1))
 behind_last (Done p written) Nothing put = put
 behind_last (Done p written) (Rate rate ack) put = put
 behind_last (Done p written) (Parameters ack) put = put

@@ -1,6 +1,6 @@
 -- Wrong steps that break M1: one says success on the last packet but one, one does not compare Total, one skips packets, one refuses
 -- repeats when done, one while loading, one refuses all, one says no notice, one drops the transfer at refused parameters.
-use Rattle.std.specs.Prelude.{ℕ, ◌≡◌, refl, get_or}
+use Rattle.std.specs.Prelude.{ℕ, ◌≡◌, refl, get_or, None}
 use mathlib.Core.List.Memᴰ
 use mathlib.Core.List.{List, [], ◌∷◌, Memᴰ}
 use Rattle.std.proofs.Common.{ap, arith}
@@ -28,7 +28,6 @@ use Rattle.module_promises.proofs.WrongRules.{refuses_again, drops_transfer}
 use Rattle.module_model.specs.declared.phases.Phase.{Phase}
 use Rattle.module_model.specs.declared.phases.Phase.TheVariants.{Ready, Done}
 use Rattle.module_model.specs.declared.events.Event.TheVariants.{Frame}
-use Rattle.module_model.specs.declared.rules.Put.TheVariants.{Nowhere}
 use Rattle.module_model.specs.declared.rules.Say.TheVariants.{Parameters, Packet}
 
 -- ---- success on the last but one
@@ -99,7 +98,7 @@ unfolding opening_of takes alive openable kind_of fits_flash number_at little ru
     rules.numbers_in rules.state_of
 skipping_heard = (
   heard_performed (opened flash8) (decide_of Ready 2 declares8.payload flash8) declares8.payload flash8 declares8.reply,
-  heard_performed begun8 (rules.acknowledge_of done8 2 Nowhere) sends2.payload flash8 sends2.reply,
+  heard_performed begun8 (rules.acknowledge_of done8 2 None) sends2.payload flash8 sends2.reply,
 )
 
 pub skips_packets_refuted : SuccessExactlyOf skipping → ⊥

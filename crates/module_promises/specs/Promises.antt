@@ -1,13 +1,12 @@
 -- What the module promises, to be read without the proofs. Each statement is proved in the file named beside it.
-use Rattle.std.specs.Prelude.{ℕ, zero, suc, ◌+◌, ◌-◌, ◌^◌, ◌≤◌, ◌<◌, true, false, cond, ◌⊎◌, ◌≡◌, length, get_or, take}
+use Rattle.refusals.specs.declared.Refusal.{Refusal}
+use Rattle.std.specs.Prelude.{ℕ, zero, suc, ◌+◌, ◌-◌, ◌^◌, ◌≤◌, ◌<◌, true, false, cond, ◌⊎◌, ◌≡◌, length, get_or, take, None, Option, Some}
 use mathlib.Core.List.{List, [], ◌∷◌, ◌++◌, Memᴰ}
 use Rattle.octets.specs.Octets.{Bytes, number_at, part_of, laid}
 use Rattle.refusals.specs.Refusals.{no_room, wrong_length}
 use Rattle.kinds.specs.Kinds.{kind_of, base_of}
 use Rattle.kinds.specs.KindsLaws.{FitsFlash}
 use Rattle.kinds.specs.declared.Kind.{Kind}
-use Rattle.kinds.specs.declared.Known.{Known}
-use Rattle.kinds.specs.declared.Known.TheVariants.{Is, Unknown}
 use Rattle.pieces.specs.Pieces.{count_of, offset_of, size_at}
 use Rattle.wire.specs.Frame as wire
 use Rattle.commands.specs.Commands.{parameters_for, packet_for, largest_packet, largest_total, parameters_command, packet_command}
@@ -96,9 +95,9 @@ abbrev pub SuccessExactly : Type 0
 SuccessExactly = SuccessExactlyOf step_of
 
 -- The range that parameters declare: its base by the type, and its length.
-abbrev pub base_by : Known → ℕ
-base_by (Is kind) = base_of kind
-base_by Unknown = 0
+abbrev pub base_by : Option Kind → ℕ
+base_by (Some kind) = base_of kind
+base_by None = 0
 
 abbrev pub base_in : Exchange → ℕ
 base_in parameters = base_by (kind_of (type_field (payload_of parameters.given)))
@@ -431,7 +430,7 @@ IdleRule = IdleRuleOf step_of
 -- M4, what is refused (Idle.antt): 2 or 3, and session with its sum, flash and reply buffer stay as lent; time is not counted.
 abbrev pub RefusedLeavesOf : Step → Type 0
 RefusedLeavesOf step =
-    (s : Session) (g : Given) (n : ℕ) → (exchange_by step s g).left.answer ≡ Refused n
+    (s : Session) (g : Given) (n : Refusal) → (exchange_by step s g).left.answer ≡ Refused n
     → (exchange_by step s g).left ≡ left (stepped s (Refused n)) g.flash g.reply
 
 abbrev pub RefusedLeaves : Type 0
@@ -516,7 +515,7 @@ pub record Refuses (step : Step) (s : Session) (g : Given) : Type 0 where
       → (smallest_reply ≤ length g.reply) × (length g.flash ≡ s.flash → ⊥)
   pub three_when : smallest_reply ≤ length g.reply → (length g.flash ≡ s.flash → ⊥)
       → (exchange_by step s g).left.answer ≡ Refused wrong_length
-  pub no_other : (n : ℕ) → (exchange_by step s g).left.answer ≡ Refused n → (n ≡ no_room) ⊎ (n ≡ wrong_length)
+  pub no_other : (n : Refusal) → (exchange_by step s g).left.answer ≡ Refused n → (n ≡ no_room) ⊎ (n ≡ wrong_length)
 
 -- For every event in every session, open, closed or such as could not arise (RefusedWhen.antt).
 abbrev pub RefusedExactlyOf : Step → Type 0

@@ -2,11 +2,11 @@
 #![tactic(auto)]
 
 use console::Got;
-use kinds::Known;
-use refusals::Written;
+
+use refusals::Refusal;
 use std::env::FillError;
 use std::rt::{Env, Files};
-use ubf::{Found, Numbers};
+use ubf::{Numbers};
 
 fn main(rt: HostRuntime) {
     if console::argument_count(&rt) != 9 {
@@ -66,8 +66,8 @@ fn pack_image(rt: &(impl Env + Files + Print), err: &impl Print, image: &[u8]) {
 // The address of a type; a type that is not known has none, and the writer refuses it.
 fn address_of(number: u16) -> u32 {
     match kinds::kind_of(number) {
-        Known::Is(kind) => kinds::base_of(kind),
-        Known::Unknown => 0,
+        Some(kind) => kinds::base_of(kind),
+        None => 0,
     }
 }
 
@@ -91,8 +91,8 @@ fn pack_texts(rt: &(impl Env + Files + Print), err: &impl Print, numbers: Number
         &mut out,
     );
     match answer {
-        Written::Count(n) => keep(rt, err, octets::part(&out, 0, n)),
-        Written::Refused(number) => {
+        Ok(n) => keep(rt, err, octets::part(&out, 0, n)),
+        Err(number) => {
             console::refusal(rt, number);
             console::say(rt, b"\n");
         }
@@ -127,10 +127,10 @@ fn keep_as(rt: &(impl Files + Print), err: &impl Print, path: &[u8], block: &[u8
     }
 }
 
-fn show(rt: &impl Print, found: Found) {
+fn show(rt: &impl Print, found: Result<Block, Refusal>) {
     match found {
-        Found::Refused(number) => console::refusal(rt, number),
-        Found::Whole(block) => {
+        Err(number) => console::refusal(rt, number),
+        Ok(block) => {
             let kind = block.kind;
             console::placed(rt, kind, block.extent, block.start);
             console::say(rt, b", check ");

@@ -3,7 +3,7 @@ ghost use Rattle.std.specs.Prelude.{◌≡◌};
 ghost use Rattle.octets.specs.Octets.{same_bytes};
 ghost use Rattle.posts.specs.Agreed.{agreement, agreed_in};
 
-use refusals::Written;
+use refusals::Refusal;
 
 // Where the rate stands in the reply, behind head, Length, device and command.
 const RATE_PLACE: usize = 5;
@@ -35,7 +35,7 @@ fn is_agreement(rate: u8, reply: &[u8]) -> bool
     let mut own = [0u8; AGREEMENT_MOST];
     let written = wire::write(commands::RATE, &[rate, commands::ACCEPTED], &mut own);
     match written {
-        Written::Count(n) => octets::same(octets::part(&own, 0, n), reply),
-        Written::Refused(_) => false,
+        Ok(n) => octets::same(octets::part(&own, 0, n), reply),
+        Err(_) => false,
     }
 }

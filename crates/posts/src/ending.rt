@@ -1,23 +1,27 @@
 // How a load ended.
 ghost use Rattle.std.specs.Prelude.{◌≡◌};
 ghost use Rattle.host_model.specs.Events.{count_in};
-ghost use Rattle.posts.specs.View.{ended_with, begun_of, ending_of};
+ghost use Rattle.posts.specs.View.{begun_of, ending_of};
 
 use host::Answer;
+use refusals::Refusal;
 
-// Number 0 is done; with 21 and 22 passed is the module's byte. Fields are plain numbers, so that a loop can carry them.
-#[derive(Clone, Copy)]
-pub struct Ending {
-    pub over: bool,
-    pub number: u8,
-    pub passed: u8,
+// A load is under way, done, or refused; with 21 and 22 the module's byte is passed on.
+#[derive(Clone, Copy, Debug, PartialEq, Eq)]
+pub enum Ending {
+    UnderWay,
+    Done,
+    Refused {
+        refusal: Refusal,
+        passed: Option<u8>,
+    },
 }
 
 // A load under way.
 pub fn begun() -> Ending
     ensures { result ≡ begun_of }
 {
-    ended_with(false, 0, 0)
+    Ending::UnderWay
 }
 
 // What an answer of the host says of the end.
@@ -25,15 +29,20 @@ pub fn ended_by(answer: Answer) -> Ending
     ensures { result ≡ ending_of answer }
 {
     match answer {
-        Answer::Nothing => ended_with(false, 0, 0),
-        Answer::Sent(_) => ended_with(false, 0, 0),
-        Answer::Done => ended_with(true, 0, 0),
-        Answer::Refused(number) => ended_with(true, number, 0),
+        Answer::Nothing | Answer::Sent(_) => Ending::UnderWay,
+        Answer::Done => Ending::Done,
+        Answer::Refused(refusal) => Ending::Refused {
+            refusal,
+            passed: None,
+        },
         Answer::Failed {
-            number,
+            refusal,
             passed,
-            count,
-        } => ended_with(true, number, passed),
+            ..
+        } => Ending::Refused {
+            refusal,
+            passed: Some(passed),
+        },
     }
 }
 
@@ -42,24 +51,8 @@ pub fn said(answer: Answer) -> usize
     ensures { result ≡ count_in answer }
 {
     match answer {
-        Answer::Nothing => 0,
         Answer::Sent(n) => n,
-        Answer::Done => 0,
-        Answer::Refused(number) => 0,
-        Answer::Failed {
-            number,
-            passed,
-            count,
-        } => count,
-    }
-}
-
-fn ended_with(over: bool, number: u8, passed: u8) -> Ending
-    ensures { result ≡ ended_with over number passed }
-{
-    Ending {
-        over: over,
-        number: number,
-        passed: passed,
+        Answer::Failed { count, .. } => count,
+        Answer::Nothing | Answer::Done | Answer::Refused(_) => 0,
     }
 }

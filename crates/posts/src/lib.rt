@@ -14,4 +14,4 @@ pub use caller::{Caller, CallerStep};
 pub use ending::{Ending, begun, ended_by, said};
 pub use piece::piece_for;
 pub use post::{Post, PostStep};
-pub use view::{View, is_idle, view_of};
+pub use view::{Stand, View, is_idle, view_of};

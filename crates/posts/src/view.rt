@@ -1,4 +1,4 @@
-// What a person, or a file of the flash, needs to know of a post, as plain numbers.
+// What a person, or a file of the flash, needs to know of a post.
 ghost use Rattle.std.specs.Prelude.{◌≡◌};
 ghost use Rattle.posts.specs.View.{bare_of, seen_of, cut_of, phase_view, view_of, idle_of};
 
@@ -6,12 +6,21 @@ use crate::post::Post;
 use kinds::Kind;
 use module::{Phase, Pieces, Transfer};
 
-// Stand is 0 without an open session, 1 when ready, 2 with parameters accepted, 3 while loading, 4 when done. The range of the
-// transfer begins at base, and written bytes of it are in the flash. The kind says nothing where there is no transfer.
-#[derive(Clone, Copy)]
+// How far a session is: closed, ready, with parameters accepted, loading, or done.
+#[derive(Clone, Copy, Debug, PartialEq, Eq)]
+pub enum Stand {
+    Closed,
+    Ready,
+    Begun,
+    Loading,
+    Done,
+}
+
+// The range of the transfer begins at base, and written bytes of it are in the flash. Without a transfer there is no kind.
+#[derive(Clone, Copy, Debug, PartialEq, Eq)]
 pub struct View {
-    pub stand: u8,
-    pub kind: Kind,
+    pub stand: Stand,
+    pub kind: Option<Kind>,
     pub base: usize,
     pub extent: usize,
     pub written: usize,
@@ -23,7 +32,7 @@ pub fn view_of(post: Post) -> View
     let board = post.board;
     let session = board.session;
     if !session.is_open() {
-        return bare(0);
+        return bare(Stand::Closed);
     }
     let phase = session.phase;
     phase_view(phase)
@@ -33,44 +42,44 @@ fn phase_view(phase: Phase) -> View
     ensures { result ≡ phase_view phase }
 {
     match phase {
-        Phase::Closed => bare(0),
-        Phase::Ready => bare(1),
-        Phase::Begun(transfer) => seen(2, transfer, 0),
+        Phase::Closed => bare(Stand::Closed),
+        Phase::Ready => bare(Stand::Ready),
+        Phase::Begun(transfer) => seen(Stand::Begun, transfer, 0),
         Phase::Loading {
             pieces,
             number,
             written,
-        } => cut(3, pieces, written),
-        Phase::Done { pieces, written } => cut(4, pieces, written),
+        } => cut(Stand::Loading, pieces, written),
+        Phase::Done { pieces, written } => cut(Stand::Done, pieces, written),
     }
 }
 
-fn bare(stand: u8) -> View
+fn bare(stand: Stand) -> View
     ensures { result ≡ bare_of stand }
 {
     View {
-        stand: stand,
-        kind: Kind::Navigation,
+        stand,
+        kind: None,
         base: 0,
         extent: 0,
         written: 0,
     }
 }
 
-fn cut(stand: u8, pieces: Pieces, written: usize) -> View
+fn cut(stand: Stand, pieces: Pieces, written: usize) -> View
     ensures { result ≡ cut_of stand pieces written }
 {
     let transfer = pieces.transfer;
     seen(stand, transfer, written)
 }
 
-fn seen(stand: u8, transfer: Transfer, written: usize) -> View
+fn seen(stand: Stand, transfer: Transfer, written: usize) -> View
     ensures { result ≡ seen_of stand transfer written }
 {
     let kind = transfer.kind;
     View {
-        stand: stand,
-        kind: kind,
+        stand,
+        kind: Some(kind),
         base: kinds::base_of(kind) as usize,
         extent: transfer.extent,
         written: written,

@@ -1,9 +1,7 @@
 -- The reader, a byte at a time: what a step answers and the reader after it.
 use Rattle.std.specs.Prelude.{ℕ, ◌+◌, ◌-◌, Bool, true, false, cond, List, [], ◌∷◌, leb, get_or, take, set, replicate}
 use Rattle.octets.specs.Octets.{part_of}
-use Rattle.wire.specs.Frame.{Frame, frame, shortest_content, longest_content, verdict_of}
-use Rattle.wire.specs.declared.content.Verdict.{Verdict}
-use Rattle.wire.specs.declared.content.Verdict.TheVariants.{Good, Bad}
+use Rattle.wire.specs.Frame.{Frame, frame, shortest_content, longest_content, is_content}
 use Rattle.reader.specs.Moves.{move_of}
 use Rattle.reader.specs.declared.moves.Move.{Move}
 use Rattle.reader.specs.declared.moves.Move.TheVariants.{Pass, Begin, Wait, Put, Drop, End}
@@ -44,9 +42,9 @@ abbrev pub answers : Heard → Reader → Stepped
 answers heard r = record { reader = r; heard = heard }
 
 -- The content is judged at its tail: the frame is handed out, or dropped; both close.
-abbrev pub judged_by : Verdict → Reader → Stepped
-judged_by Good r = answers (Whole (get_or r.store 3 0) (r.count - shortest_content)) (closed_of r)
-judged_by Bad r = answers Dropped (closed_of r)
+abbrev pub judged_by : Bool → Reader → Stepped
+judged_by true r = answers (Whole (get_or r.store 3 0) (r.count - shortest_content)) (closed_of r)
+judged_by false r = answers Dropped (closed_of r)
 
 -- What a move answers and leaves. Where a head opens a frame inside another, that one is dropped.
 abbrev pub moved_by : Move → Reader → Stepped
@@ -55,7 +53,7 @@ moved_by Begin r = answers (cond r.opened Dropped Nothing) (opened_of r)
 moved_by Wait r = answers Nothing (waiting_of r)
 moved_by (Put b) r = answers Nothing (put_of r b)
 moved_by Drop r = answers Dropped (closed_of r)
-moved_by End r = judged_by (verdict_of (held_of r)) r
+moved_by End r = judged_by (is_content (held_of r)) r
 
 -- One step of a reader whose count is at most 1,035.
 unfoldable pub known_step : Reader → ℕ → Stepped

@@ -1,10 +1,10 @@
 // The reader's state and its step.
 ghost use Rattle.std.specs.Prelude.{◌≡◌, ◌≤◌, ◌<◌, take};
-ghost use Rattle.wire.specs.Frame.{longest_content, verdict_of};
+ghost use Rattle.wire.specs.Frame.{longest_content, is_content};
 ghost use Rattle.reader.specs.Reader.{fresh, known_of, closed_of, answers, moved_by, step_of, payload_in};
 
 use crate::moves::{Move, move_of};
-use wire::{CONTENT_MOST, Verdict};
+use wire::CONTENT_MOST;
 
 // The content so far stands in the first count bytes of the store.
 #[derive(Clone, Copy)]
@@ -108,14 +108,13 @@ impl Reader {
     {
         let store = self.store;
         let count = self.count;
-        let verdict = judged(&store, count);
-        match verdict {
-            Verdict::Good => self.closed().answers(Heard::Frame {
+        if is_frame(&store, count) {
+            return self.closed().answers(Heard::Frame {
                 command: store[3],
                 count: count - wire::CONTENT_LEAST,
-            }),
-            Verdict::Bad => self.closed().answers(Heard::Dropped),
+            });
         }
+        self.closed().answers(Heard::Dropped)
     }
 
     fn closed(self) -> Reader
@@ -137,13 +136,13 @@ impl Reader {
     }
 }
 
-// The verdict over the content so far.
-fn judged(store: &[u8; CONTENT_MOST], count: usize) -> Verdict
+// Whether the content so far is that of a frame.
+fn is_frame(store: &[u8; CONTENT_MOST], count: usize) -> bool
     requires { count ≤ longest_content }
-    ensures { result ≡ verdict_of (take count store.now) }
+    ensures { result ≡ is_content (take count store.now) }
 {
     let all: &[u8] = store;
-    wire::judge(&all[..count])
+    wire::is_content(&all[..count])
 }
 
 // The payload of a handed-out frame, as a part of the store that the reader carries.

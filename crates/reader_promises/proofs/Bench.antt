@@ -3,7 +3,7 @@ use Rattle.std.specs.Prelude.{ℕ, ◌-◌, List, [], ◌∷◌, map, ◌≡◌,
 use Rattle.std.proofs.Common.{◌∙◌}
 use Rattle.octets.specs.Octets.{little, spelled, number_at, xor_from}
 use Rattle.wire.specs.Escape.{is_mark, second_of, may_follow, original_of, escape_of, escaped}
-use Rattle.wire.specs.Frame.{unchecked_of, content_of, wire_form, wire_of, verdict_of, is_content}
+use Rattle.wire.specs.Frame.{unchecked_of, content_of, wire_form, wire_of, is_content}
 use Rattle.reader_promises.specs.Runs.{Placed, placed}
 use Rattle.reader_promises.specs.Table.{Row, bench_table, printed_row}
 use Rattle.reader_promises.specs.Promises.{BenchTable, PrintedRow, BenchFrames}
@@ -34,7 +34,7 @@ all_written = refl
 
 -- Every row's bytes are read as the row's frame, and the printed row as none.
 all_read : (map read_of bench_table ≡ map frame_of bench_table) × (seen_handed outside 0 printed_row ≡ [])
-unfolding seen_handed sight_of inside_sight tail_sight follow_sight content_sight may_follow original_of is_content verdict_of number_at little xor_from
+unfolding seen_handed sight_of inside_sight tail_sight follow_sight content_sight may_follow original_of is_content number_at little xor_from
 all_read = (refl, refl)
 
 -- The bench table, row by row.

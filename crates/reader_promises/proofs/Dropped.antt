@@ -4,9 +4,7 @@ use Rattle.std.proofs.Math.Bool.{true, false}
 use Rattle.std.proofs.Math.Path.{refl}
 use Rattle.octets.proofs.Choice.{either_way}
 use Rattle.wire.specs.Escape.{head_mark, escape_mark, tail_mark, may_follow, original_of}
-use Rattle.wire.specs.Frame.{longest_content, verdict_of}
-use Rattle.wire.specs.declared.content.Verdict.{Verdict}
-use Rattle.wire.specs.declared.content.Verdict.TheVariants.{Good, Bad}
+use Rattle.wire.specs.Frame.{longest_content, is_content}
 use Rattle.reader.specs.Moves.{content_move, follow_move, tail_move, inside_move, move_of, Does, passes, begins}
 use Rattle.reader.specs.Reader.{known_of, held_of, judged_by, moved_by, known_step, step_of}
 use Rattle.reader.specs.declared.steps.Reader.{Reader}
@@ -29,14 +27,14 @@ module _ (store : List ℕ) (count : ℕ) where
   unfolding follow_move
   follow_told p b = either_way (MoveTold p) (may_follow b) (λ e. content_told p (original_of b)) (λ e. refl)
 
-  judged_told : (p : Bool) (v : Verdict) → ToldRight true false (judged_by v (inside p))
-  judged_told p Good = refl
-  judged_told p Bad = refl
+  judged_told : (p : Bool) (v : Bool) → ToldRight true false (judged_by v (inside p))
+  judged_told p true = refl
+  judged_told p false = refl
 
   tail_told : (p : Bool) → MoveTold p (tail_move p)
   unfolding tail_move
   tail_told true = refl
-  tail_told false = judged_told false (verdict_of (held_of (inside false)))
+  tail_told false = judged_told false (is_content (held_of (inside false)))
 
   inside_told : (p : Bool) (b : ℕ) → MoveTold p (inside_move count p b)
   unfolding inside_move

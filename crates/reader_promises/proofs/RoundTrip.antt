@@ -1,10 +1,9 @@
 -- W1: a frame written is read again, and a frame read is written again as it stood.
-use Rattle.std.specs.Prelude.{ℕ, ◌+◌, ◌-◌, Bool, true, false, cond, List, ◌++◌, ◌≡◌, refl, ltb, length}
+use Rattle.std.specs.Prelude.{ℕ, ◌+◌, ◌-◌, Bool, true, false, cond, List, ◌++◌, ◌≡◌, refl, ltb, length, Err}
 use Rattle.std.proofs.Common.{zero-add, arith, drop_at}
 use Rattle.std.proofs.Math.Seq.{take-append_seam}
 use Rattle.refusals.specs.Refusals.{payload_too_long, no_room}
 use Rattle.refusals.specs.Written.{Out, refused, written}
-use Rattle.refusals.specs.declared.Written.TheVariants.{Refused}
 use Rattle.wire.specs.Frame.{longest_payload, wire_of}
 use Rattle.wire.specs.Write.{write_of}
 use Rattle.wire.specs.WriteLaws.{write_done}
@@ -40,7 +39,7 @@ refused_as_lent f output n = go (ltb longest_payload (length f.payload)) (ltb (l
     answers : Bool → Bool → Out
     answers long short = cond long (refused payload_too_long output) (cond short (refused no_room output) (written (wire_of f) output))
 
-    go : (long short : Bool) → (answers long short).answer ≡ Refused n → (answers long short).output ≡ output
+    go : (long short : Bool) → (answers long short).answer ≡ Err n → (answers long short).output ≡ output
     go true short h = refl
     go false true h = refl
     go false false h = cc h

@@ -11,9 +11,7 @@ use Rattle.std.proofs.Math.ListN.{length-set}
 use Rattle.std.proofs.Math.Seq.{get_or-take}
 use Rattle.octets.specs.Octets.{part_of}
 use Rattle.wire.specs.Escape.{head_mark, escape_mark, tail_mark, may_follow, original_of}
-use Rattle.wire.specs.Frame.{Frame, frame, shortest_content, longest_content, verdict_of, is_good, is_content, frame_in}
-use Rattle.wire.specs.declared.content.Verdict.{Verdict}
-use Rattle.wire.specs.declared.content.Verdict.TheVariants.{Good, Bad}
+use Rattle.wire.specs.Frame.{Frame, frame, shortest_content, longest_content, is_content, frame_in}
 use Rattle.wire.specs.FrameLaws.{content_long}
 use Rattle.reader.specs.Reader.{fresh, known_of, held_of, closed_of, opened_of, answers}
 use Rattle.reader.specs.Reader.{payload_in, frames_in, frames_of}
@@ -96,19 +94,19 @@ module _ (store : List ℕ) (count : ℕ) (size : length store ≡ longest_conte
   frame_held h = rw (held_long, get_or-take count store 3 0 (omega arith), part_take (count - 5) 4 count store (omega arith))
 
   -- Where the content so far is judged good, its frame is handed out, else none.
-  judged_seen : (p : Bool) (v : Verdict) → verdict_of (take count store) ≡ v
-      → SeenAs (judged_by v (inside_of store count p)) (cond (is_good v) (hands (frame_in (take count store))) (quiet outside))
+  judged_seen : (p : Bool) (v : Bool) → is_content (take count store) ≡ v
+      → SeenAs (judged_by v (inside_of store count p)) (cond v (hands (frame_in (take count store))) (quiet outside))
   unfolding is_content held_of
-  judged_seen p Good e =
-      let long = content_long (take count store) (ap is_good e) in
+  judged_seen p true e =
+      let long = content_long (take count store) e in
       record { known = still false false; after = refl; handed = ap (λ (f : Frame). f ∷ []) (frame_held (omega (arith, long, held_long))) }
-  judged_seen p Bad e = dropped_seen p
+  judged_seen p false e = dropped_seen p
 
   -- The tail hands out the frame that the content so far carries, or none.
   tail_seen : (p : Bool) → MoveAs p (tail_move p) (tail_sight p (take count store))
   unfolding tail_move tail_sight is_content held_of
   tail_seen true = dropped_seen true
-  tail_seen false = judged_seen false (verdict_of (take count store)) refl
+  tail_seen false = judged_seen false (is_content (take count store)) refl
 
   -- The escape waits for the next byte.
   waiting_seen : (p : Bool) → MoveAs p waits (quiet (within true (take count store)))

@@ -8,7 +8,7 @@ use Rattle.octets.specs.Octets.{Bytes, little, spelled, number_at, xor_from, xor
 use Rattle.octets.proofs.Lists.{bytes_snoc}
 use Rattle.wire.specs.Escape.{head_mark, tail_mark, is_mark, second_of, may_follow, escape_of, escaped}
 use Rattle.wire.specs.Frame.{Frame, frame, Acceptable, longest_content, shortest_content}
-use Rattle.wire.specs.Frame.{unchecked_of, content_of, wire_form, wire_of, verdict_of, is_content}
+use Rattle.wire.specs.Frame.{unchecked_of, content_of, wire_form, wire_of, is_content}
 use Rattle.wire.specs.Write.{write_of}
 use Rattle.refusals.specs.Written.{Out}
 use Rattle.commands.specs.Commands.{restart_frame}
@@ -61,7 +61,7 @@ abbrev pub hands_out_nothing : Step
 hands_out_nothing = saying unsaid
 
 nothing_handed : handed_by hands_out_nothing fresh 0 restart_bytes ≡ []
-unfolding handed_by step_of known_step known_of fresh move_of inside_move tail_move content_move held_of verdict_of number_at little xor_from
+unfolding handed_by step_of known_step known_of fresh move_of inside_move tail_move content_move held_of is_content number_at little xor_from
 nothing_handed = refl
 
 pub hands_out_nothing_round_trip_refuted : RoundTripOf hands_out_nothing wire_of → ⊥
@@ -91,7 +91,7 @@ abbrev longest : Frame
 longest = frame 0x05 (replicate 1030 0x00)
 
 early_handed : handed_by ends_early fresh 0 (wire_of longest) ≡ []
-unfolding handed_by step_of known_step known_of fresh move_of inside_move tail_move content_move held_of verdict_of number_at little xor_from
+unfolding handed_by step_of known_step known_of fresh move_of inside_move tail_move content_move held_of is_content number_at little xor_from
     wire_of wire_form content_of unchecked_of spelled escaped escape_of is_mark
 early_handed = refl
 
@@ -112,7 +112,7 @@ abbrev pub raises_command : Step
 raises_command = saying raised
 
 raised_handed : handed_by raises_command fresh 0 restart_bytes ≡ placed 6 (frame 0x07 []) ∷ []
-unfolding handed_by step_of known_step known_of fresh move_of inside_move tail_move content_move held_of verdict_of number_at little xor_from part_of
+unfolding handed_by step_of known_step known_of fresh move_of inside_move tail_move content_move held_of is_content number_at little xor_from part_of
 raised_handed = refl
 
 -- The frame that it hands out is written with its own command.
@@ -162,17 +162,17 @@ abbrev after_head : List ℕ
 after_head = 0x03 ∷ 0x00 ∷ 0x01 ∷ 0x06 ∷ 0x04 ∷ 0xDE ∷ []
 
 pub keeps_count_refuted : ResyncOf keeps_count → ⊥
-unfolding handed_by step_of known_step known_of fresh move_of inside_move tail_move content_move held_of verdict_of number_at little xor_from
+unfolding handed_by step_of known_step known_of fresh move_of inside_move tail_move content_move held_of is_content number_at little xor_from
     follow_move part_of
 keeps_count_refuted = not_resynced keeps_count open_noise after_head refl refl
 
 pub keeps_escape_refuted : ResyncOf keeps_escape → ⊥
-unfolding handed_by step_of known_step known_of fresh move_of inside_move tail_move content_move held_of verdict_of number_at little xor_from
+unfolding handed_by step_of known_step known_of fresh move_of inside_move tail_move content_move held_of is_content number_at little xor_from
     follow_move may_follow part_of
 keeps_escape_refuted = not_resynced keeps_escape escape_noise after_head refl refl
 
 pub head_is_bad_refuted : ResyncOf head_is_bad → ⊥
-unfolding handed_by step_of known_step known_of fresh move_of inside_move tail_move content_move held_of verdict_of number_at little xor_from
+unfolding handed_by step_of known_step known_of fresh move_of inside_move tail_move content_move held_of is_content number_at little xor_from
     follow_move may_follow part_of
 head_is_bad_refuted = not_resynced head_is_bad escape_noise after_head refl refl
 
@@ -188,7 +188,7 @@ always_one_frame r b = cond (r.opened && eqb b tail_mark) (told (get_or r.store 
 
 -- A head and a tail hold no frame.
 always_handed : handed_by always_one_frame fresh 0 (0xDB ∷ 0xDE ∷ []) ≡ placed 1 (frame 0x00 []) ∷ []
-unfolding handed_by step_of known_step known_of fresh move_of inside_move tail_move content_move held_of verdict_of number_at little xor_from part_of
+unfolding handed_by step_of known_step known_of fresh move_of inside_move tail_move content_move held_of is_content number_at little xor_from part_of
 always_handed = refl
 
 pub always_one_frame_refuted : EveryStretchOf always_one_frame → ⊥
@@ -215,13 +215,11 @@ place_one_on r b =
     (cond (ends r b) (answers Nothing (record { store = r.store; count = r.count; opened = false; pending = true })) (step_of r b))
 
 command_handed : handed_by command_one_on fresh 0 restart_bytes ≡ placed 6 (frame 0x04 []) ∷ []
-unfolding handed_by step_of known_step known_of fresh move_of inside_move tail_move content_move held_of verdict_of number_at little xor_from
-    is_content part_of
+unfolding handed_by step_of known_step known_of fresh move_of inside_move tail_move content_move held_of is_content number_at little xor_from part_of
 command_handed = refl
 
 place_handed : handed_by place_one_on fresh 0 (restart_bytes ++ (0x00 ∷ [])) ≡ placed 7 restart_frame ∷ []
-unfolding handed_by step_of known_step known_of fresh move_of inside_move tail_move content_move held_of verdict_of number_at little xor_from
-    is_content part_of
+unfolding handed_by step_of known_step known_of fresh move_of inside_move tail_move content_move held_of is_content number_at little xor_from part_of
 place_handed = refl
 
 -- Command 4 does not stand in the restart frame's bytes, and the restart frame does not stand a place further on.
@@ -274,7 +272,7 @@ abbrev just_begun : Reader
 just_begun = record { store = []; count = 0; opened = true; pending = false }
 
 pub drops_in_silence_refuted : DroppedExactlyOf drops_in_silence → ⊥
-unfolding step_of known_step known_of move_of inside_move tail_move held_of verdict_of
+unfolding step_of known_step known_of move_of inside_move tail_move held_of is_content
 drops_in_silence_refuted promise = false≢true (promise just_begun tail_mark)
 
 pub noise_is_dropped_refuted : DroppedExactlyOf noise_is_dropped → ⊥
@@ -290,5 +288,5 @@ counts_nothing r b =
     (told (get_or r.store 3 0) r) (step_of r b)
 
 pub counts_nothing_refuted : PrintedRowOf counts_nothing → ⊥
-unfolding handed_by step_of known_step known_of fresh move_of inside_move tail_move content_move held_of verdict_of number_at little xor_from part_of
+unfolding handed_by step_of known_step known_of fresh move_of inside_move tail_move content_move held_of is_content number_at little xor_from part_of
 counts_nothing_refuted promise = let counts : ◌≡◌ {A = ℕ} 1 0 = ap length promise in omega (arith, counts)

@@ -11,7 +11,7 @@ use Rattle.refusals.specs.Written.{Out, refused}
 use Rattle.kinds.specs.Kinds.{number_of, token_of}
 use Rattle.kinds.specs.declared.Kind.{Kind}
 use Rattle.wire.specs.Escape.{head_mark, tail_mark, is_mark, second_of, may_follow, original_of, escape_of, escaped}
-use Rattle.wire.specs.Frame.{Frame, frame, device, unchecked_of, content_of, wire_form, wire_of, verdict_of}
+use Rattle.wire.specs.Frame.{Frame, frame, device, unchecked_of, content_of, wire_form, wire_of, is_content}
 use Rattle.wire.specs.Marks.{Form, OnlyMarksOf, NoPrefixOf}
 use Rattle.wire.specs.Write.{write_of}
 use Rattle.commands.specs.Commands.{rate_frame, restart_frame, notice}
@@ -31,7 +31,7 @@ counts_escapes f =
     wire_form (before ++ (xor_of before ∷ []))
 
 pub counts_escapes_refuted : RoundTripOf step_of counts_escapes → ⊥
-unfolding handed_by step_of known_step known_of fresh move_of inside_move tail_move content_move held_of verdict_of number_at little xor_from
+unfolding handed_by step_of known_step known_of fresh move_of inside_move tail_move content_move held_of is_content number_at little xor_from
     follow_move may_follow original_of wire_form spelled escaped escape_of is_mark second_of
 counts_escapes_refuted promise =
     let counts : ◌≡◌ {A = ℕ} 0 1 = ap length (promise fresh (rate_frame 0xDB) fresh_known.size (omega arith)) in
@@ -52,7 +52,7 @@ success_are_bytes =
     (omega arith, (omega arith, (omega arith, (omega arith, (omega arith, (omega arith, (omega arith, (omega arith, tt))))))))
 
 success_handed : handed_by step_of fresh 0 success_bytes ≡ placed 7 (notice 0) ∷ []
-unfolding handed_by step_of known_step known_of fresh move_of inside_move tail_move content_move held_of verdict_of number_at little xor_from part_of
+unfolding handed_by step_of known_step known_of fresh move_of inside_move tail_move content_move held_of is_content number_at little xor_from part_of
 success_handed = refl
 
 pub leaves_payload_out_refuted : ReadBackOf step_of leaves_payload_out → ⊥

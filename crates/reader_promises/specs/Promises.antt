@@ -1,6 +1,7 @@
 -- What the reader and the writer promise, to be read without the proofs. Each statement is of a step, a wire form or a writer, and then
 -- of ours; of ours it is proved in the file named beside it, and for wrong ones refuted in Wrong.
-use Rattle.std.specs.Prelude.{ℕ, ◌+◌, ◌-◌, ◌≤◌, Bool, not, ◌&&◌, ◌||◌, ◌≡◌, eqb, length, take, drop}
+use Rattle.refusals.specs.declared.Refusal.{Refusal}
+use Rattle.std.specs.Prelude.{ℕ, ◌+◌, ◌-◌, ◌≤◌, Bool, not, ◌&&◌, ◌||◌, ◌≡◌, eqb, length, take, drop, Err}
 use mathlib.Core.List.{List, [], ◌∷◌, ◌++◌, map, Memᴰ}
 use Rattle.octets.specs.Octets.{Bytes}
 use Rattle.wire.specs.Escape.{head_mark}
@@ -8,7 +9,6 @@ use Rattle.wire.specs.Frame.{Frame, frame, Acceptable, wire_of, longest_payload,
 use Rattle.wire.specs.Marks.{Form}
 use Rattle.wire.specs.Write.{write_of}
 use Rattle.refusals.specs.Written.{Out, written}
-use Rattle.refusals.specs.declared.Written.TheVariants.{Refused}
 use Rattle.reader.specs.Reader.{fresh, known_of, step_of, frames_of, dropped_in}
 use Rattle.commands.specs.Commands.{rate_frame, rate_reply, parameters_command, parameters_for, parameters_reply}
 use Rattle.commands.specs.Commands.{packet_reply, restart_frame, notice, accepted}
@@ -60,7 +60,7 @@ ReadBack = ReadBackOf step_of write_of
 
 -- A frame that the writer refuses leaves the output as lent (RoundTrip.antt).
 abbrev pub RefusedAsLentOf : Writer → Type 0
-RefusedAsLentOf write = (f : Frame) (output : List ℕ) (n : ℕ) → (write f output).answer ≡ Refused n → (write f output).output ≡ output
+RefusedAsLentOf write = (f : Frame) (output : List ℕ) (n : Refusal) → (write f output).answer ≡ Err n → (write f output).output ≡ output
 
 abbrev pub RefusedAsLent : Type 0
 RefusedAsLent = RefusedAsLentOf write_of

@@ -1,12 +1,12 @@
 -- What a call that writes answers and leaves.
-use Rattle.std.specs.Prelude.{ℕ, List, length}
+use Rattle.std.specs.Prelude.{ℕ, List, length, Result, Ok, Err}
 use Rattle.octets.specs.Octets.{over}
-use Rattle.refusals.specs.declared.Written.{Written}
-use Rattle.refusals.specs.declared.Written.TheVariants.{Count, Refused}
+use Rattle.refusals.specs.declared.Refusal.{Refusal}
+use Rattle.refusals.specs.Refusals.{refusal_number}
 
 -- The answer and the lent output at the end of a call.
 pub record Out : Type 0 where
-  pub answer : Written
+  pub answer : Result ℕ Refusal
   pub output : List ℕ
 
 -- What each case says in numbers. A refusal has document 01's number, and no byte is written. Bytes written are no refusal and have no
@@ -14,18 +14,18 @@ pub record Out : Type 0 where
 abbrev pub bytes_written : ℕ
 bytes_written = 100
 
-abbrev pub number_in : Written → ℕ
-number_in (Count n) = bytes_written
-number_in (Refused number) = number
+abbrev pub number_in : Result ℕ Refusal → ℕ
+number_in (Ok n) = bytes_written
+number_in (Err refusal) = refusal_number refusal
 
-abbrev pub count_in : Written → ℕ
-count_in (Count n) = n
-count_in (Refused number) = 0
+abbrev pub count_in : Result ℕ Refusal → ℕ
+count_in (Ok n) = n
+count_in (Err refusal) = 0
 
 -- A refusal leaves the output as lent.
-abbrev pub refused : ℕ → List ℕ → Out
-refused number output = record { answer = Refused number; output = output }
+abbrev pub refused : Refusal → List ℕ → Out
+refused refusal output = record { answer = Err refusal; output = output }
 
 -- A stretch written at the front; the output past it is as lent.
 abbrev pub written : List ℕ → List ℕ → Out
-written stretch output = record { answer = Count (length stretch); output = over stretch output }
+written stretch output = record { answer = Ok (length stretch); output = over stretch output }

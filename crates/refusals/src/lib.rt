@@ -1,92 +1,134 @@
-// The refusal numbers of document 01's table by name, and the words that a program prints beside a number.
+// The refusals of document 01's table: each by name, its number, and the words that a program prints beside the number.
 #![tactic(auto)]
 
-ghost use Rattle.std.specs.Prelude.{◌≡◌, ◌≤◌};
+ghost use Rattle.std.specs.Prelude.{◌≡◌, OkIff};
 ghost use Rattle.octets.specs.Octets.{Front};
-ghost use Rattle.refusals.specs.Refusals.{say_of, words_of};
-ghost use Rattle.refusals.specs.Rows.{row_of};
+ghost use Rattle.refusals.specs.Refusals.{refusal_number, say_of, words_of, Numbered};
 
-pub const PAYLOAD_TOO_LONG: u8 = 1;
+use std::error::Error;
+use std::fmt;
 
-pub const NO_ROOM: u8 = 2;
-
-pub const WRONG_LENGTH: u8 = 3;
-
-pub const FILE_ENDS: u8 = 4;
-
-pub const WRONG_MARK: u8 = 5;
-
-pub const WRONG_TYPE: u8 = 6;
-
-pub const WRONG_START: u8 = 7;
-
-pub const WRONG_IMAGE_LENGTH: u8 = 8;
-
-pub const NOT_ZERO_FILLED: u8 = 9;
-
-pub const WRONG_IMAGE_CHECK: u8 = 10;
-
-pub const WRONG_PIECES: u8 = 11;
-
-pub const NO_ANSWER: u8 = 20;
-
-pub const MODULE_REFUSED: u8 = 21;
-
-pub const BAD_NOTICE: u8 = 22;
-
-// How many bytes were written at the front of an output, or the refusal number.
-#[derive(Clone, Copy)]
-pub enum Written {
-    Count(usize),
-    Refused(u8),
+#[derive(Clone, Copy, Debug, PartialEq, Eq)]
+pub enum Refusal {
+    PayloadTooLong,
+    NoRoom,
+    WrongLength,
+    FileEnds,
+    WrongMark,
+    WrongType,
+    WrongStart,
+    WrongImageLength,
+    NotZeroFilled,
+    WrongImageCheck,
+    WrongPieces,
+    NoAnswer,
+    ModuleRefused,
+    BadNotice,
 }
 
-// How many numbers the table of words has.
-const ROWS: usize = 14;
+// A number that the table does not have.
+#[derive(Clone, Copy, Debug, PartialEq, Eq)]
+pub struct UnknownNumber(pub u8);
+
+impl Refusal {
+    // The number of a refusal, as C and people see it.
+    pub fn number(self) -> u8
+        ensures { result ≡ refusal_number self }
+    {
+        match self {
+            Refusal::PayloadTooLong => 1,
+            Refusal::NoRoom => 2,
+            Refusal::WrongLength => 3,
+            Refusal::FileEnds => 4,
+            Refusal::WrongMark => 5,
+            Refusal::WrongType => 6,
+            Refusal::WrongStart => 7,
+            Refusal::WrongImageLength => 8,
+            Refusal::NotZeroFilled => 9,
+            Refusal::WrongImageCheck => 10,
+            Refusal::WrongPieces => 11,
+            Refusal::NoAnswer => 20,
+            Refusal::ModuleRefused => 21,
+            Refusal::BadNotice => 22,
+        }
+    }
+
+    // The words beside its number.
+    #[tactic(auto, unfolding(crate::specs::Refusals::words_of))]
+    pub fn words(self) -> &'static str
+        ensures { result.now ≡ words_of (refusal_number self) }
+    {
+        match self {
+            Refusal::PayloadTooLong => "payload over 1,030 bytes",
+            Refusal::NoRoom => "output too small",
+            Refusal::WrongLength => "flash or image of the wrong length",
+            Refusal::FileEnds => "file ends inside a block",
+            Refusal::WrongMark => "mark is not AT",
+            Refusal::WrongType => "type or address not known",
+            Refusal::WrongStart => "image starts inside the header",
+            Refusal::WrongImageLength => "image length not allowed",
+            Refusal::NotZeroFilled => "gap or text not filled with zeros",
+            Refusal::WrongImageCheck => "image check differs",
+            Refusal::WrongPieces => "piece size 0 or too many pieces",
+            Refusal::NoAnswer => "no fitting answer after 3 repeats",
+            Refusal::ModuleRefused => "the module refused",
+            Refusal::BadNotice => "the module reports a failure",
+        }
+    }
+}
+
+impl TryFrom<u8> for Refusal {
+    type Error = UnknownNumber;
+
+    ghost try_from_gives = { Numbered };
+
+    #[tactic(auto, unfolding(crate::specs::Refusals::words_of))]
+    fn try_from(number: u8) -> Result<Self, UnknownNumber> {
+        match number {
+            1 => Ok(Refusal::PayloadTooLong),
+            2 => Ok(Refusal::NoRoom),
+            3 => Ok(Refusal::WrongLength),
+            4 => Ok(Refusal::FileEnds),
+            5 => Ok(Refusal::WrongMark),
+            6 => Ok(Refusal::WrongType),
+            7 => Ok(Refusal::WrongStart),
+            8 => Ok(Refusal::WrongImageLength),
+            9 => Ok(Refusal::NotZeroFilled),
+            10 => Ok(Refusal::WrongImageCheck),
+            11 => Ok(Refusal::WrongPieces),
+            20 => Ok(Refusal::NoAnswer),
+            21 => Ok(Refusal::ModuleRefused),
+            22 => Ok(Refusal::BadNotice),
+            _ => Err(UnknownNumber(number)),
+        }
+    }
+}
+
+impl fmt::Display for Refusal {
+    fn fmt<W: fmt::Write>(&self, f: &mut fmt::Formatter<W>) -> fmt::Result {
+        f.write_str(self.words())
+    }
+}
+
+impl fmt::Display for UnknownNumber {
+    fn fmt<W: fmt::Write>(&self, f: &mut fmt::Formatter<W>) -> fmt::Result {
+        f.write_str("unknown refusal number")
+    }
+}
+
+impl Error for Refusal {}
+
+impl Error for UnknownNumber {}
 
 // Puts the words of a number at the front of the output, as much of them as fits, and answers how many bytes that is.
 pub fn words(number: u8, out: &mut [u8]) -> usize
     ensures said { record { count = result; output = out.new } ≡ say_of (words_of number) out.old }
     ensures within { Front result out.new }
 {
-    // A row a number: the number, its words, a zero. The last line has the words of any other number.
-    let table = b"\
-\x01payload over 1,030 bytes\0\
-\x02output too small\0\
-\x03flash or image of the wrong length\0\
-\x04file ends inside a block\0\
-\x05mark is not AT\0\
-\x06type or address not known\0\
-\x07image starts inside the header\0\
-\x08image length not allowed\0\
-\x09gap or text not filled with zeros\0\
-\x0Aimage check differs\0\
-\x0Bpiece size 0 or too many pieces\0\
-\x14no fitting answer after 3 repeats\0\
-\x15the module refused\0\
-\x16the module reports a failure\0\
-unknown refusal number";
-    say(row_of(table, ROWS, number), out)
-}
-
-// The words of a number in a table of so many rows.
-fn row_of(table: &[u8], rows: usize, number: u8) -> &[u8]
-    requires { rows ≤ 255 }
-    ensures { result.now ≡ row_of rows number table.now }
-{
-    let mut at = 0;
-    let mut left = rows;
-    while 0 < left {
-        let row = octets::behind(table, at);
-        let words = octets::behind(row, 1);
-        let n = octets::text_length(words);
-        if octets::byte_at(row, 0) == number {
-            return octets::part(words, 0, n);
-        }
-        at += n + 2;
-        left -= 1;
+    match Refusal::try_from(number) {
+        Ok(refusal) => say(refusal.words().as_bytes(), out),
+        Err(_) => say(b"unknown refusal number", out),
     }
-    octets::behind(table, at)
 }
 
 fn say(text: &[u8], out: &mut [u8]) -> usize

@@ -2,7 +2,8 @@
 // they print is tested.
 #![tactic(auto)]
 
-use host::{Answer, LineRate, Phase, Session, Wait};
+use refusals::Refusal;
+use host::{Answer, Phase, Session, Wait};
 use spoken_frames::{Side, show_message, words_only};
 use stages::{Rate, Stage};
 
@@ -36,7 +37,7 @@ pub fn show_answer(rt: &impl Print, answer: Answer, out: &[u8]) {
 
 // The module's byte beside 21 is an ACK, beside 22 a State.
 fn passed_on(rt: &impl Print, number: u8, passed: u8) {
-    if number == refusals::MODULE_REFUSED {
+    if number == Refusal::ModuleRefused {
         console::say(rt, b", ACK");
     } else {
         console::say(rt, b", State");
@@ -96,8 +97,8 @@ fn progress(rt: &impl Print, session: Session) {
 fn line_rate(rt: &impl Print, session: Session) {
     let line = session.line_rate();
     match line {
-        LineRate::AsItWas => console::say(rt, b"; line as it was"),
-        LineRate::At(rate) => {
+        None => console::say(rt, b"; line as it was"),
+        Some(rate) => {
             console::say(rt, b"; line at ");
             rate_words(rt, rate);
         }

@@ -5,6 +5,7 @@ ghost use Rattle.host_model.specs.Answers.{by_ack, lower_move, rate_move, piece_
 use commands::{LARGEST_PACKET, LARGEST_TOTAL};
 use host_model::{Move, Plan, Rate, Same, Stage};
 use rates::rate_number;
+use refusals::Refusal;
 
 // A frame at a stage. An answer of another command or payload length counts as none.
 pub fn frame_move(plan: Plan, image: usize, stage: Stage, command: u8, payload: &[u8]) -> Move
@@ -178,10 +179,10 @@ fn lower(rate: Rate) -> Move
 }
 
 fn refuse(ack: u8) -> Move
-    ensures { result ≡ Move.Refuse 21 ack }
+    ensures { result ≡ Move.Refuse Refusal.ModuleRefused ack }
 {
     Move::Refuse {
-        number: refusals::MODULE_REFUSED,
+        refusal: Refusal::ModuleRefused,
         passed: ack,
     }
 }
@@ -282,7 +283,7 @@ fn notice_move(rate: Rate, size: usize, state: u8) -> Move
         });
     }
     Move::Refuse {
-        number: refusals::BAD_NOTICE,
+        refusal: Refusal::BadNotice,
         passed: state,
     }
 }

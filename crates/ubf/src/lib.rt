@@ -4,5 +4,5 @@
 mod walk;
 
 pub use ubf_block::{date, file_name, image, model, read, size, version, write};
-pub use ubf_model::{Block, Found, Nth, Numbers};
+pub use ubf_model::{Block, Nth, Numbers};
 pub use walk::block_at;

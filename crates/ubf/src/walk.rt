@@ -3,7 +3,7 @@ ghost use Rattle.std.specs.Prelude.{◌≡◌, ◌+◌, ◌^◌, ◌≤◌, ◌<
 ghost use Rattle.ubf_model.specs.Walk.{block_at, nth_from};
 
 use ubf_block::{read, size};
-use ubf_model::{Found, Nth};
+use ubf_model::Nth;
 
 // The n-th block of a file.
 pub fn block_at(file: &[u8], n: usize) -> Nth
@@ -17,12 +17,12 @@ fn nth_from(rest: &[u8], place: usize, n: usize, counted: usize) -> Nth
     ensures { result ≡ nth_from n counted place rest.now }
 {
     match read(rest) {
-        Found::Refused(number) => Nth::Refused {
-            number,
+        Err(refusal) => Nth::Refused {
+            refusal,
             place,
             count: counted,
         },
-        Found::Whole(block) => {
+        Ok(block) => {
             if n == 0 {
                 return Nth::Found { block, place };
             }

@@ -3,56 +3,57 @@ ghost use Rattle.std.specs.Prelude.{◌≡◌, ◌-◌, ◌<◌};
 ghost use Rattle.octets.specs.Octets.{same_bytes, part_of, xor_words};
 ghost use Rattle.ubf_model.specs.Block.{header_size, mark_in, mark, start_in, model_in, version_in, name_in, date_in, text_fits, texts_fit, filled_in, size_of, image_of, kind_block, block_of};
 
-use kinds::{Kind, Known};
+use kinds::Kind;
+use refusals::Refusal;
 use ubf_model::{
-    ADDRESS_PLACE, Block, DATE_PLACE, DATE_SIZE, Found, HEADER_SIZE, LENGTH_PLACE, MARK_PLACE,
+    ADDRESS_PLACE, Block, DATE_PLACE, DATE_SIZE, HEADER_SIZE, LENGTH_PLACE, MARK_PLACE,
     MODEL_PLACE, MODEL_SIZE, NAME_PLACE, NAME_SIZE, START_PLACE, TYPE_PLACE, VERSION_PLACE,
     VERSION_SIZE,
 };
 
 // Reads the block at the front.
-pub fn read(s: &[u8]) -> Found
+pub fn read(s: &[u8]) -> Result<Block, Refusal>
     ensures { result ≡ block_of s.now }
 {
     if s.len() < HEADER_SIZE {
-        return Found::Refused(refusals::FILE_ENDS);
+        return Err(Refusal::FileEnds);
     }
     if !marked(s) {
-        return Found::Refused(refusals::WRONG_MARK);
+        return Err(Refusal::WrongMark);
     }
     match kinds::kind_of(octets::two_at(s, TYPE_PLACE)) {
-        Known::Is(kind) => read_kind(s, kind),
-        Known::Unknown => Found::Refused(refusals::WRONG_TYPE),
+        Some(kind) => read_kind(s, kind),
+        None => Err(Refusal::WrongType),
     }
 }
 
-fn read_kind(s: &[u8], kind: Kind) -> Found
+fn read_kind(s: &[u8], kind: Kind) -> Result<Block, Refusal>
     ensures { result ≡ kind_block kind s.now }
 {
     if octets::four_at(s, ADDRESS_PLACE) != kinds::base_of(kind) {
-        return Found::Refused(refusals::WRONG_TYPE);
+        return Err(Refusal::WrongType);
     }
     let extent = octets::four_at(s, LENGTH_PLACE);
     let long = wide(extent);
     if !kinds::fits_file(kind, long) {
-        return Found::Refused(refusals::WRONG_IMAGE_LENGTH);
+        return Err(Refusal::WrongImageLength);
     }
     let start = octets::four_at(s, START_PLACE);
     let from = wide(start);
     if from < HEADER_SIZE {
-        return Found::Refused(refusals::WRONG_START);
+        return Err(Refusal::WrongStart);
     }
     if s.len() < from + long + 4 {
-        return Found::Refused(refusals::FILE_ENDS);
+        return Err(Refusal::FileEnds);
     }
     if !filled(s, from - HEADER_SIZE) {
-        return Found::Refused(refusals::NOT_ZERO_FILLED);
+        return Err(Refusal::NotZeroFilled);
     }
     let check = octets::four_at(s, from + long);
     if check != xor_of_part(s, from, long) {
-        return Found::Refused(refusals::WRONG_IMAGE_CHECK);
+        return Err(Refusal::WrongImageCheck);
     }
-    Found::Whole(Block {
+    Ok(Block {
         kind,
         extent,
         start,

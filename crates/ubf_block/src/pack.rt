@@ -14,8 +14,7 @@ ghost use Rattle.ubf_model.specs.Pack.{
 ghost use Rattle.ubf_model.specs.Room.{HeaderRoom};
 
 use crate::block::{texts_fit, wide};
-use kinds::Known;
-use refusals::Written;
+use refusals::Refusal;
 use ubf_model::{
     ADDRESS_PLACE, DATE_PLACE, DATE_SIZE, HEADER_SIZE, LENGTH_PLACE, MARK_PLACE, MODEL_PLACE,
     MODEL_SIZE, NAME_PLACE, NAME_SIZE, Numbers, START_PLACE, TYPE_PLACE, VERSION_PLACE,
@@ -31,32 +30,32 @@ pub fn write(
     date: &[u8],
     image: &[u8],
     out: &mut [u8],
-) -> Written
+) -> Result<usize, Refusal>
     ensures { record { answer = result; output = out.new }
         ≡ pack_of
         (gathered numbers model.now version.now name.now date.now image.now)
         out.old }
 {
     if !type_pairs(numbers.number, numbers.address) {
-        return Written::Refused(refusals::WRONG_TYPE);
+        return Err(Refusal::WrongType);
     }
     if !image_fits(numbers.number, image.len()) {
-        return Written::Refused(refusals::WRONG_IMAGE_LENGTH);
+        return Err(Refusal::WrongImageLength);
     }
     let start = wide(numbers.start);
     if start < HEADER_SIZE {
-        return Written::Refused(refusals::WRONG_START);
+        return Err(Refusal::WrongStart);
     }
     if !texts_fit(model, version, name, date) {
-        return Written::Refused(refusals::NOT_ZERO_FILLED);
+        return Err(Refusal::NotZeroFilled);
     }
     let size = start + image.len() + 4;
     if out.len() < size {
-        return Written::Refused(refusals::NO_ROOM);
+        return Err(Refusal::NoRoom);
     }
     lay_header(numbers, model, version, name, date, image, out);
     lay_image(start, image, out);
-    Written::Count(size)
+    Ok(size)
 }
 
 // Whether a type is known and has this address.
@@ -64,8 +63,8 @@ fn type_pairs(number: u16, address: u32) -> bool
     ensures { result ≡ pairs (kind_of number) address }
 {
     match kinds::kind_of(number) {
-        Known::Is(kind) => address == kinds::base_of(kind),
-        Known::Unknown => false,
+        Some(kind) => address == kinds::base_of(kind),
+        None => false,
     }
 }
 
@@ -74,8 +73,8 @@ fn image_fits(number: u16, extent: usize) -> bool
     ensures { result ≡ fits (kind_of number) extent }
 {
     match kinds::kind_of(number) {
-        Known::Is(kind) => kinds::fits_file(kind, extent),
-        Known::Unknown => false,
+        Some(kind) => kinds::fits_file(kind, extent),
+        None => false,
     }
 }
 

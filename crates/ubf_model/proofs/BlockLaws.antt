@@ -1,24 +1,21 @@
 -- The laws of a block: the facts that its tests stand for.
-use Rattle.std.specs.Prelude.{ℕ, ◌+◌, ◌≤◌, Bool, true, false, List, ◌≡◌, refl, eqb, leb, length}
+use Rattle.refusals.specs.declared.Refusal.{Refusal}
+use Rattle.std.specs.Prelude.{ℕ, ◌+◌, ◌≤◌, Bool, true, false, List, ◌≡◌, refl, eqb, leb, length, None, Ok, Option, Result, Some}
 use Rattle.std.proofs.Common.{arith, eq-eqb, eqb-true, le-leb, leb-true}
 use Rattle.octets.specs.Octets.{same_bytes, xor_words}
 use Rattle.octets.proofs.OctetsLaws.{same_refl, same_true}
 use Rattle.kinds.specs.Kinds.{kind_of, base_of, fits_file}
 use Rattle.kinds.specs.declared.Kind.{Kind}
-use Rattle.kinds.specs.declared.Known.{Known}
-use Rattle.kinds.specs.declared.Known.TheVariants.{Is, Unknown}
 use Rattle.refusals.specs.Refusals.{file_ends, wrong_mark, wrong_type, wrong_start, wrong_image_length, not_zero_filled, wrong_image_check}
 use Rattle.ubf_model.specs.Block.{header_size, mark_in, mark, length_in, address_in, start_in, type_in, filled_in, image_in, check_in}
 use Rattle.ubf_model.specs.Block.{fields_of, size_of, unless, kind_block, known_block, block_of}
 use Rattle.ubf_model.specs.declared.block.Block.{Block}
-use Rattle.ubf_model.specs.declared.block.Found.{Found}
-use Rattle.ubf_model.specs.declared.block.Found.TheVariants.{Whole}
 
 -- The facts that make the front of some bytes a block of a kind.
 pub record Good (k : Kind) (s : List ℕ) : Type 0 where
   pub header : header_size ≤ length s
   pub marked : mark_in s ≡ mark
-  pub known : kind_of (type_in s) ≡ Is k
+  pub known : kind_of (type_in s) ≡ Some k
   pub based : address_in s ≡ base_of k
   pub sized : fits_file k (length_in s) ≡ true
   pub behind_header : header_size ≤ start_in s
@@ -27,7 +24,7 @@ pub record Good (k : Kind) (s : List ℕ) : Type 0 where
   pub checked : check_in s ≡ xor_words (image_in s)
 
 -- Where the facts hold, the block is read with its fields.
-pub block_of_good : (k : Kind) (s : List ℕ) → Good k s → block_of s ≡ Whole (fields_of k s)
+pub block_of_good : (k : Kind) (s : List ℕ) → Good k s → block_of s ≡ Ok (fields_of k s)
 unfolding block_of kind_block
 block_of_good k s g =
     rw (
@@ -50,12 +47,12 @@ pub record ReadGood (s : List ℕ) (b : Block) : Type 0 where
   pub fields : b ≡ fields_of kind s
 
 -- Where a test stands before a block that was read, it was passed, and what stands behind it is the block.
-went_on : (t : Bool) (number : ℕ) (rest : Found) (b : Block) → unless t number rest ≡ Whole b → (t ≡ true) × (rest ≡ Whole b)
-went_on true number rest b h = (refl, h)
-went_on false number rest b h = let z : ◌≡◌ {A = ℕ} 0 1 = cc in absurd (omega arith)
+went_on : (t : Bool) (refusal : Refusal) (rest : Result Block Refusal) (b : Block) → unless t refusal rest ≡ Ok b → (t ≡ true) × (rest ≡ Ok b)
+went_on true refusal rest b h = (refl, h)
+went_on false refusal rest b h = cc
 
 -- A block that was read has passed every test.
-pub good_of_block : (s : List ℕ) (b : Block) → block_of s ≡ Whole b → ReadGood s b
+pub good_of_block : (s : List ℕ) (b : Block) → block_of s ≡ Ok b → ReadGood s b
 unfolding block_of kind_block
 good_of_block s b h =
     let header_there = went_on (leb header_size (length s)) file_ends _ b h in
@@ -64,10 +61,10 @@ good_of_block s b h =
     let marks = same_true (mark_in s) mark mark_there.0 in
     go (kind_of (type_in s)) refl long marks mark_there.1
   where
-    go : (known : Known) → kind_of (type_in s) ≡ known → header_size ≤ length s → mark_in s ≡ mark → known_block known s ≡ Whole b
+    go : (known : Option Kind) → kind_of (type_in s) ≡ known → header_size ≤ length s → mark_in s ≡ mark → known_block known s ≡ Ok b
         → ReadGood s b
-    go Unknown e long marks r = let z : ◌≡◌ {A = ℕ} 0 1 = cc in absurd (omega arith)
-    go (Is k) e long marks r =
+    go None e long marks r = cc
+    go (Some k) e long marks r =
         let at_base = went_on (eqb (address_in s) (base_of k)) wrong_type _ b r in
         let fits_file_law = went_on (fits_file k (length_in s)) wrong_image_length _ b at_base.1 in
         let starts = went_on (leb header_size (start_in s)) wrong_start _ b fits_file_law.1 in
@@ -91,9 +88,9 @@ good_of_block s b h =
         }
 
 -- A block that was read lies within the bytes.
-pub block_within : (s : List ℕ) (b : Block) → block_of s ≡ Whole b → size_of b ≤ length s
+pub block_within : (s : List ℕ) (b : Block) → block_of s ≡ Ok b → size_of b ≤ length s
 block_within s b h = let r = good_of_block s b h in rw r.fields r.good.there
 
 -- A block that was read is at least as long as its header.
-pub block_some : (s : List ℕ) (b : Block) → block_of s ≡ Whole b → header_size ≤ size_of b
+pub block_some : (s : List ℕ) (b : Block) → block_of s ≡ Ok b → header_size ≤ size_of b
 block_some s b h = let r = good_of_block s b h in rw r.fields (omega arith)

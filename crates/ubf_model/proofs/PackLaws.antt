@@ -1,5 +1,6 @@
 -- The laws of writing: a block is its fields, each standing at its place.
-use Rattle.std.specs.Prelude.{ℕ, ◌+◌, ◌-◌, ◌≤◌, ◌<◌, Bool, true, false, List, [], ◌++◌, ◌≡◌, refl, eqb, leb, length, take, replicate}
+use Rattle.refusals.specs.declared.Refusal.{Refusal}
+use Rattle.std.specs.Prelude.{ℕ, ◌+◌, ◌-◌, ◌≤◌, ◌<◌, Bool, true, false, List, [], ◌++◌, ◌≡◌, refl, eqb, leb, length, take, replicate, None, Option, Some}
 use Rattle.std.proofs.lemmas.Bool.{false≢true}
 use Rattle.std.proofs.Common.{append-nil, sym, ap, ◌∙◌, arith, eq-eqb, eqb-true, le-leb, leb-true, length-append}
 use Rattle.std.proofs.lemmas.List.{length-replicate}
@@ -11,9 +12,7 @@ use Rattle.octets.proofs.PartLaws.{lay_all_law, stand_of_laid, laid_of_stand, le
 use Rattle.kinds.specs.Kinds.{longest_image, kind_of, base_of, fits_file}
 use Rattle.kinds.specs.KindsLaws.{image_short}
 use Rattle.kinds.specs.declared.Kind.{Kind}
-use Rattle.kinds.specs.declared.Known.{Known}
-use Rattle.kinds.specs.declared.Known.TheVariants.{Is, Unknown}
-use Rattle.refusals.specs.Refusals.{no_room, wrong_type, wrong_start, wrong_image_length, not_zero_filled}
+use Rattle.refusals.specs.Refusals.{no_room, wrong_type, wrong_start, wrong_image_length, not_zero_filled, refusal_number}
 use Rattle.refusals.specs.Written.{Out, bytes_written, number_in, written}
 use Rattle.ubf_model.specs.Block.{header_size, mark_in, mark, model_in, version_in, name_in, date_in, gap_in, text_fits, texts_fit, filled_in}
 use Rattle.ubf_model.specs.Block.{length_place, address_place, start_place, type_place, model_size, version_size, name_size, date_size}
@@ -187,7 +186,7 @@ block_of_fields f s h t =
 -- ---- the tests of the writer
 
 -- Fields that pass every test are written as their block.
-pub pack_passed : (k : Kind) (f : Fields) (output : List ℕ) → kind_of f.number ≡ Is k → f.address ≡ base_of k
+pub pack_passed : (k : Kind) (f : Fields) (output : List ℕ) → kind_of f.number ≡ Some k → f.address ≡ base_of k
     → fits_file k (length f.image) ≡ true → header_size ≤ f.start → texts_in f ≡ true → bytes_of f ≤ length output
     → pack_of f output ≡ written (block_bytes f) output
 unfolding pack_of
@@ -204,7 +203,7 @@ pack_passed k f output known based sized start texts room =
 -- The tests that fields have passed.
 pub record Accepted (f : Fields) (output : List ℕ) : Type 0 where
   pub kind : Kind
-  pub known : kind_of f.number ≡ Is kind
+  pub known : kind_of f.number ≡ Some kind
   pub based : f.address ≡ base_of kind
   pub sized : fits_file kind (length f.image) ≡ true
   pub behind_header : header_size ≤ f.start
@@ -212,17 +211,17 @@ pub record Accepted (f : Fields) (output : List ℕ) : Type 0 where
   pub room : bytes_of f ≤ length output
 
 -- Where a test stands before an answer that bytes were written, it was passed, and what stands behind it is that answer.
-went_on : (t : Bool) (number : ℕ) (output : List ℕ) (rest : Out) → number < bytes_written
-    → number_in (unless_out t number output rest).answer ≡ bytes_written → (t ≡ true) × (number_in rest.answer ≡ bytes_written)
-went_on true number output rest less h = (refl, h)
-went_on false number output rest less h = absurd (omega (arith, h))
+went_on : (t : Bool) (refusal : Refusal) (output : List ℕ) (rest : Out) → refusal_number refusal < bytes_written
+    → number_in (unless_out t refusal output rest).answer ≡ bytes_written → (t ≡ true) × (number_in rest.answer ≡ bytes_written)
+went_on true refusal output rest less h = (refl, h)
+went_on false refusal output rest less h = absurd (omega (arith, h))
 
 -- Fields that were written have passed every test.
 pub pack_accepted : (f : Fields) (output : List ℕ) → number_in (pack_of f output).answer ≡ bytes_written → Accepted f output
 unfolding pack_of
 pack_accepted f output h = go (kind_of f.number) refl h
   where
-    behind_kind : Known → Out
+    behind_kind : Option Kind → Out
     behind_kind known =
         unless_out (pairs known f.address) wrong_type output
         (unless_out (fits known (length f.image)) wrong_image_length output
@@ -231,9 +230,9 @@ pack_accepted f output h = go (kind_of f.number) refl h
         (unless_out (leb (bytes_of f) (length output)) no_room output
         (written (block_bytes f) output)))))
 
-    go : (known : Known) → kind_of f.number ≡ known → number_in (behind_kind known).answer ≡ bytes_written → Accepted f output
-    go Unknown e r = let z : wrong_type ≡ bytes_written = r in absurd (omega (arith, z))
-    go (Is k) e r =
+    go : (known : Option Kind) → kind_of f.number ≡ known → number_in (behind_kind known).answer ≡ bytes_written → Accepted f output
+    go None e r = let z : refusal_number wrong_type ≡ bytes_written = r in absurd (omega (arith, z))
+    go (Some k) e r =
         let at_base = went_on (eqb f.address (base_of k)) wrong_type output _ (omega arith) r in
         let fits_file_law = went_on (fits_file k (length f.image)) wrong_image_length output _ (omega arith) at_base.1 in
         let starts = went_on (leb header_size f.start) wrong_start output _ (omega arith) fits_file_law.1 in
@@ -269,6 +268,6 @@ pub body_built : (f : Fields) (out : List ℕ) → header_size ≤ f.start
 body_built f out h = let behind_gap : header_size + (f.start - header_size) ≡ f.start = omega arith in rw behind_gap
 
 -- An image that a known type may have is no longer than the longest one.
-pub fits_short : (k : Known) (n : ℕ) → fits k n ≡ true → n ≤ longest_image
-fits_short (Is k) n h = image_short k n h
-fits_short Unknown n h = absurd (false≢true h)
+pub fits_short : (k : Option Kind) (n : ℕ) → fits k n ≡ true → n ≤ longest_image
+fits_short (Some k) n h = image_short k n h
+fits_short None n h = absurd (false≢true h)

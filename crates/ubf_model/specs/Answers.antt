@@ -1,10 +1,10 @@
 -- What each case of an answer about blocks says, in numbers: the answer's own, and the values of the case, 0 where it has none. A refusal
 -- has document 01's number; what is no refusal has none there, and is numbered from 100 on, as C is given it.
-use Rattle.std.specs.Prelude.{ℕ}
+use Rattle.refusals.specs.Refusals.{refusal_number}
+use Rattle.refusals.specs.declared.Refusal.{Refusal}
+use Rattle.std.specs.Prelude.{ℕ, Err, Ok, Result}
 use Rattle.kinds.specs.Kinds.{number_of}
 use Rattle.ubf_model.specs.declared.block.Block.{Block}
-use Rattle.ubf_model.specs.declared.block.Found.{Found}
-use Rattle.ubf_model.specs.declared.block.Found.TheVariants as front
 use Rattle.ubf_model.specs.declared.walk.Nth.{Nth}
 use Rattle.ubf_model.specs.declared.walk.Nth.TheVariants as nth
 
@@ -40,12 +40,12 @@ abbrev pub none_told : ℕ → ℕ → ℕ → Told
 none_told number place count = record { number = number; kind = 0; extent = 0; start = 0; check = 0; place = place; count = count }
 
 -- The block at the front, or its refusal.
-abbrev pub found_told : Found → Told
-found_told (front.Whole b) = block_told b 0
-found_told (front.Refused number) = none_told number 0 0
+abbrev pub found_told : Result Block Refusal → Told
+found_told (Ok b) = block_told b 0
+found_told (Err refusal) = none_told (refusal_number refusal) 0 0
 
 -- The n-th block and its place; how many blocks there are; or the first fault's number and place, and the blocks before it.
 abbrev pub nth_told : Nth → Told
 nth_told (nth.Found b place) = block_told b place
 nth_told (nth.Past count) = none_told blocks_past 0 count
-nth_told (nth.Refused number place count) = none_told number place count
+nth_told (nth.Refused refusal place count) = none_told (refusal_number refusal) place count

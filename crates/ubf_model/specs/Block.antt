@@ -1,14 +1,11 @@
 -- One block of a UBF file, at the front of some bytes: its fields, or one refusal number.
-use Rattle.std.specs.Prelude.{ℕ, ◌+◌, ◌-◌, Bool, cond, ◌&&◌, List, [], ◌∷◌, eqb, leb, length}
+use Rattle.refusals.specs.declared.Refusal.{Refusal}
+use Rattle.std.specs.Prelude.{ℕ, ◌+◌, ◌-◌, Bool, cond, ◌&&◌, List, [], ◌∷◌, eqb, leb, length, Err, None, Ok, Option, Result, Some}
 use Rattle.octets.specs.Octets.{part_of, number_at, same_bytes, all_zero, zero_filled, xor_words}
 use Rattle.kinds.specs.Kinds.{kind_of, base_of, fits_file}
 use Rattle.kinds.specs.declared.Kind.{Kind}
-use Rattle.kinds.specs.declared.Known.{Known}
-use Rattle.kinds.specs.declared.Known.TheVariants.{Is, Unknown}
 use Rattle.refusals.specs.Refusals.{file_ends, wrong_mark, wrong_type, wrong_start, wrong_image_length, not_zero_filled, wrong_image_check}
 use Rattle.ubf_model.specs.declared.block.Block.{Block}
-use Rattle.ubf_model.specs.declared.block.Found.{Found}
-use Rattle.ubf_model.specs.declared.block.Found.TheVariants.{Whole, Refused}
 
 -- The header, up to the first place where the image may start.
 abbrev pub header_size : ℕ
@@ -120,11 +117,11 @@ image_of b s = part_of s b.start b.extent
 abbrev pub fields_of : Kind → List ℕ → Block
 fields_of k s = record { kind = k; extent = length_in s; start = start_in s; check = check_in s }
 
-abbrev pub unless : Bool → ℕ → Found → Found
-unless t number rest = cond t rest (Refused number)
+abbrev pub unless : Bool → Refusal → Result Block Refusal → Result Block Refusal
+unless t refusal rest = cond t rest (Err refusal)
 
 -- The tests behind the kind: its address (6), the image's length (8), its start (7), image and check there (4), zeros (9), check (10).
-unfoldable pub kind_block : Kind → List ℕ → Found
+unfoldable pub kind_block : Kind → List ℕ → Result Block Refusal
 kind_block k s =
     unless (eqb (address_in s) (base_of k)) wrong_type
     (unless (fits_file k (length_in s)) wrong_image_length
@@ -132,14 +129,14 @@ kind_block k s =
     (unless (leb (start_in s + length_in s + 4) (length s)) file_ends
     (unless (filled_in s) not_zero_filled
     (unless (eqb (check_in s) (xor_words (image_in s))) wrong_image_check
-    (Whole (fields_of k s)))))))
+    (Ok (fields_of k s)))))))
 
-abbrev pub known_block : Known → List ℕ → Found
-known_block (Is k) s = kind_block k s
-known_block Unknown s = Refused wrong_type
+abbrev pub known_block : Option Kind → List ℕ → Result Block Refusal
+known_block (Some k) s = kind_block k s
+known_block None s = Err wrong_type
 
 -- The block at the front: 208 header bytes there (4), the mark (5), the type (6), then the rest.
-unfoldable pub block_of : List ℕ → Found
+unfoldable pub block_of : List ℕ → Result Block Refusal
 block_of s =
     unless (leb header_size (length s)) file_ends
     (unless (same_bytes (mark_in s) mark) wrong_mark

@@ -1,9 +1,9 @@
 -- Writing one block.
-use Rattle.std.specs.Prelude.{ℕ, ◌+◌, ◌-◌, Bool, false, cond, List, [], ◌∷◌, ◌++◌, eqb, leb, length, replicate}
+use Rattle.refusals.specs.declared.Refusal.{Refusal}
+use Rattle.kinds.specs.declared.Kind.{Kind}
+use Rattle.std.specs.Prelude.{ℕ, ◌+◌, ◌-◌, Bool, false, cond, List, [], ◌∷◌, ◌++◌, eqb, leb, length, replicate, None, Option, Some}
 use Rattle.octets.specs.Octets.{spelled, xor_words, Pieces, end_to_end}
 use Rattle.kinds.specs.Kinds.{kind_of, base_of, fits_file}
-use Rattle.kinds.specs.declared.Known.{Known}
-use Rattle.kinds.specs.declared.Known.TheVariants.{Is, Unknown}
 use Rattle.refusals.specs.Refusals.{no_room, wrong_type, wrong_start, wrong_image_length, not_zero_filled}
 use Rattle.refusals.specs.Written.{Out, refused, written}
 use Rattle.ubf_model.specs.Block.{header_size, mark, texts_fit}
@@ -76,16 +76,16 @@ abbrev pub texts_in : Fields → Bool
 texts_in f = texts_fit f.model f.version f.name f.date
 
 -- A known type has its own address, and may have an image that fits.
-abbrev pub pairs : Known → ℕ → Bool
-pairs (Is k) address = eqb address (base_of k)
-pairs Unknown address = false
+abbrev pub pairs : Option Kind → ℕ → Bool
+pairs (Some k) address = eqb address (base_of k)
+pairs None address = false
 
-abbrev pub fits : Known → ℕ → Bool
-fits (Is k) n = fits_file k n
-fits Unknown n = false
+abbrev pub fits : Option Kind → ℕ → Bool
+fits (Some k) n = fits_file k n
+fits None n = false
 
-abbrev pub unless_out : Bool → ℕ → List ℕ → Out → Out
-unless_out t number output rest = cond t rest (refused number output)
+abbrev pub unless_out : Bool → Refusal → List ℕ → Out → Out
+unless_out t refusal output rest = cond t rest (refused refusal output)
 
 -- The reader's tests in its order, 6, 8, 7, 9, then the room, 2. Every refusal leaves the output as lent.
 unfoldable pub pack_of : Fields → List ℕ → Out

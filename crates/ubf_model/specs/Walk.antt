@@ -1,9 +1,8 @@
 -- The walk over the blocks of a file: they follow one another until the file ends.
-use Rattle.std.specs.Prelude.{ℕ, zero, suc, ◌+◌, List, [], ◌∷◌, length, drop}
+use Rattle.refusals.specs.declared.Refusal.{Refusal}
+use Rattle.std.specs.Prelude.{ℕ, zero, suc, ◌+◌, List, [], ◌∷◌, length, drop, Err, Ok, Result}
 use Rattle.ubf_model.specs.Block.{block_of, size_of}
 use Rattle.ubf_model.specs.declared.block.Block.{Block}
-use Rattle.ubf_model.specs.declared.block.Found.{Found}
-use Rattle.ubf_model.specs.declared.block.Found.TheVariants.{Whole, Refused}
 use Rattle.ubf_model.specs.declared.walk.Nth.{Nth}
 use Rattle.ubf_model.specs.declared.walk.Nth.TheVariants.{Found as NthFound, Past, Refused as NthRefused}
 
@@ -15,10 +14,10 @@ pub record Standing : Type 0 where
 abbrev pub standing : Block → ℕ → Standing
 standing b place = record { block = b; place = place }
 
--- A walk ends with the file, or at the first faulty block: its refusal number and place.
+-- A walk ends with the file, or at the first faulty block: its refusal and place.
 pub data Ending : Type 0 where
   whole : Ending
-  fault : ℕ → ℕ → Ending
+  fault : Refusal → ℕ → Ending
 
 -- What a walk finds: the good blocks in order, and how it ends.
 pub record Walked : Type 0 where
@@ -37,9 +36,9 @@ go_on next place [] = ends whole
 go_on next place (b ∷ bs) = next place (b ∷ bs)
 
 -- A faulty block ends the walk. Behind a good one it goes on with what remains.
-abbrev pub walk_on : (ℕ → List ℕ → Walked) → Found → ℕ → List ℕ → Walked
-walk_on next (Refused number) place s = ends (fault number place)
-walk_on next (Whole b) place s = and_then (standing b place) (go_on next (place + size_of b) (drop (size_of b) s))
+abbrev pub walk_on : (ℕ → List ℕ → Walked) → Result Block Refusal → ℕ → List ℕ → Walked
+walk_on next (Err refusal) place s = ends (fault refusal place)
+walk_on next (Ok b) place s = and_then (standing b place) (go_on next (place + size_of b) (drop (size_of b) s))
 
 -- At most so many blocks; no file has more blocks than bytes.
 unfoldable pub walk_by : ℕ → ℕ → List ℕ → Walked
@@ -58,7 +57,7 @@ walk_of file = walk_from 0 file
 -- where they are too few; or the first fault, and how many blocks stand before it.
 abbrev pub nth_in : ℕ → ℕ → List Standing → Ending → Nth
 nth_in n before [] whole = Past before
-nth_in n before [] (fault number place) = NthRefused number place before
+nth_in n before [] (fault refusal place) = NthRefused refusal place before
 nth_in zero before (b ∷ bs) e = NthFound b.block b.place
 nth_in (suc n) before (b ∷ bs) e = nth_in n (suc before) bs e
 

@@ -40,10 +40,3 @@ pub struct Block {
     pub start: u32,
     pub check: u32,
 }
-
-// A block is either its fields or one refusal number.
-#[derive(Clone, Copy)]
-pub enum Found {
-    Whole(Block),
-    Refused(u8),
-}

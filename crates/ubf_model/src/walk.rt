@@ -1,8 +1,9 @@
 // What the walk over the blocks of a file finds.
 use crate::block::Block;
+use refusals::Refusal;
 
 // The n-th block, counted from 0, and its place; or how many blocks the file has, where they are too few; or the first faulty
-// block's refusal number and place, and how many good blocks stand before it.
+// block's refusal and place, and how many good blocks stand before it.
 #[derive(Clone, Copy)]
 pub enum Nth {
     Found {
@@ -13,7 +14,7 @@ pub enum Nth {
         count: usize,
     },
     Refused {
-        number: u8,
+        refusal: Refusal,
         place: usize,
         count: usize,
     },

@@ -1,7 +1,8 @@
 -- U2: the walk's blocks, laid end to end, are the file; or the first faulty block is given, and all before it is right. An empty file
 -- is refused.
+use Rattle.refusals.specs.declared.Refusal.{Refusal}
 use Prim.Native.Nat.{ℕ, zero, suc, ◌+◌, ◌-◌, ◌≤◌, ◌<◌}
-use Rattle.std.specs.Prelude.{List, [], ◌∷◌, ◌≡◌, length, drop}
+use Rattle.std.specs.Prelude.{List, [], ◌∷◌, ◌≡◌, length, drop, Err, Ok, Result}
 use Rattle.std.proofs.Math.Path.{refl}
 use Rattle.std.proofs.Common.{ap, arith, length-drop, drop-drop}
 use Rattle.refusals.specs.Refusals.{file_ends}
@@ -12,8 +13,6 @@ use Rattle.ubf_model.proofs.WalkLaws.{walk_refused, nth_refused}
 use Rattle.ubf_promises.specs.Promises.{EndsFrom, WalkLaid, EmptyFile}
 use Rattle.ubf_model.specs.Walk.{Standing, standing, Ending, whole, fault, Walked, go_on, walk_on, walk_by, walk_from}
 use Rattle.ubf_model.specs.declared.block.Block.{Block}
-use Rattle.ubf_model.specs.declared.block.Found.{Found}
-use Rattle.ubf_model.specs.declared.block.Found.TheVariants.{Whole, Refused}
 
 -- A walk from a place on lays the file out.
 abbrev Lays : List ℕ → ℕ → Walked → Type 0
@@ -21,7 +20,7 @@ Lays file from w = EndsFrom file from w.blocks w.ending
 
 module _ (file : List ℕ) where
   -- A block that was read at a place stands before the blocks laid out behind it.
-  block_lays : (from : ℕ) (b : Block) (bs : List Standing) (e : Ending) → block_of (drop from file) ≡ Whole b
+  block_lays : (from : ℕ) (b : Block) (bs : List Standing) (e : Ending) → block_of (drop from file) ≡ Ok b
       → EndsFrom file (from + size_of b) bs e → EndsFrom file from (standing b from ∷ bs) e
   block_lays from b bs whole here h = ((refl, here, h.0), h.1)
   block_lays from b bs (fault number place) here h = ((refl, here, h.0), h.1, h.2)
@@ -35,9 +34,9 @@ module _ (file : List ℕ) where
   -- A walk lays the file out from a place on, if it does so from every later place.
   walk_on_lays : (next : ℕ → List ℕ → Walked) (place : ℕ) → place ≤ length file - 1
       → ((p : ℕ) → place < p → p ≤ length file - 1 → Lays file p (next p (drop p file)))
-      → (x : Found) → block_of (drop place file) ≡ x → Lays file place (walk_on next x place (drop place file))
-  walk_on_lays next place within later (Refused number) e = (refl, ap found_told e, omega arith)
-  walk_on_lays next place within later (Whole b) e =
+      → (x : Result Block Refusal) → block_of (drop place file) ≡ x → Lays file place (walk_on next x place (drop place file))
+  walk_on_lays next place within later (Err number) e = (refl, ap found_told e, omega arith)
+  walk_on_lays next place within later (Ok b) e =
       let s : List ℕ = drop place file in
       let on : ℕ = place + size_of b in
       let further : place < on = omega (arith, block_some s b e) in
@@ -62,7 +61,7 @@ unfolding walk_from
 walk_laid file = walk_by_lays file (suc (length file)) 0 (omega arith) (omega arith)
 
 -- No byte is there, and 208 are asked for.
-no_header : block_of [] ≡ Refused file_ends
+no_header : block_of [] ≡ Err file_ends
 unfolding block_of
 no_header = refl
 

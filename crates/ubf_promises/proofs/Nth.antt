@@ -1,22 +1,21 @@
 -- U2, the n-th block: the blocks before it are laid end to end from the file's front.
-use Rattle.std.specs.Prelude.{ℕ, zero, suc, ◌+◌, List, [], ◌∷◌, ◌++◌, ◌≡◌, refl, length, drop}
+use Rattle.std.specs.Prelude.{ℕ, zero, suc, ◌+◌, List, [], ◌∷◌, ◌++◌, ◌≡◌, refl, length, drop, Ok}
 use Rattle.std.proofs.Common.{sym, ◌∙◌, arith, length-append}
 use Rattle.ubf_model.specs.Block.{block_of, size_of}
 use Rattle.ubf_model.specs.Walk.{Standing, Ending, whole, fault, nth_in, nth_from, walk_of}
-use Rattle.ubf_model.specs.declared.block.Found.TheVariants.{Whole}
 use Rattle.ubf_promises.proofs.Laid.{walk_laid}
 use Rattle.ubf_promises.specs.Promises.{LaidOut, EndsFrom, NthStands, NthLaid}
 
 module _ (file : List ℕ) where
   -- One block more behind those that are laid out.
   one_more : (front : List Standing) (from end : ℕ) (b : Standing) → LaidOut file from front end → b.place ≡ end
-      → block_of (drop end file) ≡ Whole b.block → LaidOut file from (front ++ (b ∷ [])) (end + size_of b.block)
+      → block_of (drop end file) ≡ Ok b.block → LaidOut file from (front ++ (b ∷ [])) (end + size_of b.block)
   one_more [] from end b h at read = rw h (at, read, refl)
   one_more (a ∷ front) from end b h at read = (h.0, h.1, one_more front (from + size_of a.block) end b h.2 at read)
 
   -- The first block of a walk, and the rest of it.
   first_block : (from : ℕ) (b : Standing) (bs : List Standing) (e : Ending) → EndsFrom file from (b ∷ bs) e
-      → (b.place ≡ from) × (block_of (drop from file) ≡ Whole b.block) × EndsFrom file (from + size_of b.block) bs e
+      → (b.place ≡ from) × (block_of (drop from file) ≡ Ok b.block) × EndsFrom file (from + size_of b.block) bs e
   first_block from b bs whole h = (h.0.0, h.0.1, (h.0.2, h.1))
   first_block from b bs (fault number place) h = (h.0.0, h.0.1, (h.0.2, h.1, h.2))
 

@@ -1,5 +1,5 @@
 -- What was written is read again.
-use Rattle.std.specs.Prelude.{ℕ, ◌+◌, ◌-◌, ◌≤◌, List, ◌++◌, ◌≡◌, length}
+use Rattle.std.specs.Prelude.{ℕ, ◌+◌, ◌-◌, ◌≤◌, List, ◌++◌, ◌≡◌, length, Ok}
 use Rattle.std.proofs.Common.{sym, ap, ◌∙◌, arith, length-append}
 use Rattle.octets.specs.Octets.{xor_words}
 use Rattle.octets.proofs.PartLaws.{number_of_part, zeros_zero, xor_words_lt}
@@ -12,7 +12,6 @@ use Rattle.ubf_model.specs.Block.{length_place, address_place, start_place, type
 use Rattle.ubf_model.proofs.BlockLaws.{Good, block_of_good}
 use Rattle.ubf_model.specs.Pack.{Fields, block_bytes, bytes_of}
 use Rattle.ubf_model.proofs.PackLaws.{texts_of_test, test_of_texts, filled_fits, test_of_filled, FieldsStand, length_block, fields_of_block, pack_passed}
-use Rattle.ubf_model.specs.declared.block.Found.TheVariants.{Whole}
 use Rattle.ubf_promises.specs.Promises.{Packable, block_for, ReadWritten, PackWrites}
 
 -- The fields of a block as the bytes have them.
@@ -84,7 +83,7 @@ read_written k f rest p =
     let t = fields_of_block f rest p.behind_header fit in
     let n = numbers_in_law k f s p t in
     let room : bytes_of f ≤ length s = rw (length-append, length_block f p.behind_header fit) (omega arith) in
-    let found : block_of s ≡ Whole (block_for k f) = block_of_good k s (good_written k f s p t n room) ∙ rw (n.check, n.long, n.begins) in
+    let found : block_of s ≡ Ok (block_for k f) = block_of_good k s (good_written k f s p t n room) ∙ rw (n.check, n.long, n.begins) in
     record {
       fields = ap found_told found;
       model = t.model_there;

@@ -1,14 +1,15 @@
 -- Walks that break U2, or take an empty file for a whole one.
-use Rattle.std.specs.Prelude.{ℕ, zero, suc, ◌+◌, ◌-◌, List, [], ◌∷◌, ◌++◌, ◌≡◌, leb, length, take}
+use Rattle.refusals.specs.declared.Refusal.{Refusal}
+use Rattle.ubf_model.specs.declared.block.Block.{Block}
+use Rattle.std.specs.Prelude.{ℕ, zero, suc, ◌+◌, ◌-◌, List, [], ◌∷◌, ◌++◌, ◌≡◌, leb, length, take, Result}
 use Rattle.std.proofs.Common.{ap, arith}
 use Rattle.octets.specs.Octets.{spelled, little, number_at, part_of, same_bytes, all_zero, text_length, zero_filled, xor_words_from}
 use Rattle.kinds.specs.Kinds.{kind_of, fits_file}
-use Rattle.refusals.specs.Refusals.{file_ends, wrong_start}
+use Rattle.refusals.specs.Refusals.{file_ends, wrong_start, refusal_number}
 use Rattle.ubf_model.specs.Answers.{Told, block_found, blocks_past}
 use Rattle.ubf_model.specs.Block.{header_size, start_in, unless, block_of, kind_block, filled_in, text_fits, texts_fit}
 use Rattle.ubf_model.specs.Pack.{filled, block_bytes}
 use Rattle.ubf_model.specs.Walk.{Standing, Ending, whole, fault, Walked, ends, walk_on, walk_by, walk_from, walk_of, nth_from, block_at}
-use Rattle.ubf_model.specs.declared.block.Found.{Found}
 use Rattle.ubf_model.specs.declared.walk.Nth.{Nth}
 use Rattle.ubf_model.specs.declared.walk.Nth.TheVariants.{Found as NthFound, Past, Refused as NthRefused}
 use Rattle.ubf_promises.specs.Promises.{LaidOut, WalkLaidOf, Before, NthLaidOf, EmptyFileOf}
@@ -32,7 +33,7 @@ loses_last_refuted promise =
     omega (arith, wrong)
 
 -- Our walk, but CS is counted from the file and not from the block.
-abbrev pub from_file : ℕ → List ℕ → Found
+abbrev pub from_file : ℕ → List ℕ → Result Block Refusal
 from_file place s = unless (leb (place + header_size) (start_in s)) wrong_start (block_of s)
 
 abbrev pub counts_from_file : ℕ → ℕ → List ℕ → Walked
@@ -44,7 +45,7 @@ unfolding kind_of fits_file block_bytes filled spelled part_of number_at little 
     text_fits zero_filled text_length all_zero
 counts_from_file_refuted promise =
     let all = promise (block_bytes tiny ++ block_bytes tiny) in
-    let wrong : block_found ≡ wrong_start = ap (λ (t : Told). t.number) all.1 in
+    let wrong : block_found ≡ refusal_number wrong_start = ap (λ (t : Told). t.number) all.1 in
     omega (arith, wrong)
 
 -- Our walk, but a fault is put one byte further on.
@@ -69,11 +70,11 @@ empty_is_whole (b ∷ bs) = walk_of (b ∷ bs)
 
 abbrev faults_in : Ending → ℕ
 faults_in whole = 0
-faults_in (fault number place) = number
+faults_in (fault refusal place) = refusal_number refusal
 
 pub empty_is_whole_refuted : EmptyFileOf empty_is_whole block_at → ⊥
 empty_is_whole_refuted promise =
-    let wrong : 0 ≡ file_ends = ap (λ (w : Walked). faults_in w.ending) promise.0 in
+    let wrong : 0 ≡ refusal_number file_ends = ap (λ (w : Walked). faults_in w.ending) promise.0 in
     omega (arith, wrong)
 
 -- It is no whole file for U2 either.
@@ -125,5 +126,5 @@ empty_has_none n (b ∷ bs) = block_at n (b ∷ bs)
 
 pub empty_has_none_refuted : EmptyFileOf walk_of empty_has_none → ⊥
 empty_has_none_refuted promise =
-    let wrong : blocks_past ≡ file_ends = ap (λ (t : Told). t.number) (promise.1 0) in
+    let wrong : blocks_past ≡ refusal_number file_ends = ap (λ (t : Told). t.number) (promise.1 0) in
     omega (arith, wrong)

@@ -1,13 +1,12 @@
 -- Writers that break U1.
-use Rattle.std.specs.Prelude.{ℕ, ◌+◌, ◌-◌, List, [], ◌≡◌, refl, leb, length, replicate, get_or}
+use Rattle.refusals.specs.declared.Refusal.{Refusal}
+use Rattle.std.specs.Prelude.{ℕ, ◌+◌, ◌-◌, List, [], ◌≡◌, refl, leb, length, replicate, get_or, Err, Ok, Result}
 use Rattle.std.proofs.Common.{ap, arith}
 use Rattle.octets.specs.Octets.{spelled, little, number_at, part_of, over, laid, same_bytes, all_zero, text_length, zero_filled, xor_from, xor_of, xor_words_from}
 use Rattle.kinds.specs.Kinds.{kind_of, fits_file}
 use Rattle.kinds.specs.declared.Kind.TheVariants.{Upgrade}
-use Rattle.refusals.specs.Refusals.{no_room, wrong_type, wrong_start, wrong_image_length, not_zero_filled, wrong_image_check}
+use Rattle.refusals.specs.Refusals.{no_room, wrong_type, wrong_start, wrong_image_length, not_zero_filled, wrong_image_check, refusal_number}
 use Rattle.refusals.specs.Written.{Out, bytes_written, number_in, count_in, written}
-use Rattle.refusals.specs.declared.Written.{Written}
-use Rattle.refusals.specs.declared.Written.TheVariants.{Count, Refused}
 use Rattle.ubf_model.specs.Answers.{block_found}
 use Rattle.ubf_model.specs.Block.{header_size, mark, block_of, kind_block, filled_in, text_fits, texts_fit}
 use Rattle.ubf_model.specs.Pack.{filled, block_bytes, bytes_of, pairs, fits, unless_out, pack_of}
@@ -21,7 +20,7 @@ spares_room f output = unless_out (leb (bytes_of f + 1) (length output)) no_room
 pub spares_room_refuted : PackWritesOf spares_room → ⊥
 spares_room_refuted promise =
     let e = promise Upgrade tiny (replicate tiny_size 7) tiny_packable (omega arith) in
-    let wrong : no_room ≡ bytes_written = ap (λ (o : Out). number_in o.answer) e in
+    let wrong : refusal_number no_room ≡ bytes_written = ap (λ (o : Out). number_in o.answer) e in
     omega (arith, wrong)
 
 -- Our writer, but the texts are not tested.
@@ -38,7 +37,7 @@ unfolding kind_of fits_file block_bytes filled spelled over part_of number_at li
     text_fits zero_filled text_length all_zero
 skips_texts_refuted promise =
     let p = promise broken lent (omega arith) tiny_packable.image_bytes refl in
-    let wrong : not_zero_filled ≡ block_found = ap told_number (p.reads []).fields in
+    let wrong : refusal_number not_zero_filled ≡ block_found = ap told_number (p.reads []).fields in
     omega (arith, wrong)
 
 -- Our writer, but the check is the xor of bytes and not of words.
@@ -52,13 +51,13 @@ unfolding pack_of kind_of fits_file block_bytes filled spelled over laid xor_fro
     kind_block filled_in texts_fit text_fits zero_filled text_length all_zero
 checks_bytes_refuted promise =
     let p = promise tiny lent (omega arith) tiny_packable.image_bytes refl in
-    let wrong : wrong_image_check ≡ block_found = ap told_number (p.reads []).fields in
+    let wrong : refusal_number wrong_image_check ≡ block_found = ap told_number (p.reads []).fields in
     omega (arith, wrong)
 
 -- Our writer, but another count is reported.
-abbrev pub recounted : (ℕ → ℕ) → Written → Written
-recounted change (Count n) = Count (change n)
-recounted change (Refused number) = Refused number
+abbrev pub recounted : (ℕ → ℕ) → Result ℕ Refusal → Result ℕ Refusal
+recounted change (Ok n) = Ok (change n)
+recounted change (Err number) = Err number
 
 abbrev pub counts : (ℕ → ℕ) → Writer
 counts change f output = let o = pack_of f output in record { answer = recounted change o.answer; output = o.output }
@@ -121,7 +120,7 @@ pub tests_room_first_refuted : PackRefusedOf tests_room_first → ⊥
 unfolding kind_of fits_file texts_fit text_fits zero_filled text_length all_zero
 tests_room_first_refuted promise =
     let p = promise broken [] in
-    let wrong : no_room ≡ not_zero_filled = p.0 in
+    let wrong : refusal_number no_room ≡ refusal_number not_zero_filled = p.0 in
     omega (arith, wrong)
 
 -- Our writer, but the mark is laid before the tests.
@@ -132,6 +131,6 @@ pub marks_first_refuted : PackRefusedOf marks_first → ⊥
 unfolding pack_of kind_of fits_file laid texts_fit text_fits zero_filled text_length all_zero
 marks_first_refuted promise =
     let p = promise broken lent in
-    let same = p.1 (λ e. let z : not_zero_filled ≡ bytes_written = e in omega (arith, z)) in
+    let same = p.1 (λ e. let z : refusal_number not_zero_filled ≡ bytes_written = e in omega (arith, z)) in
     let wrong : ◌≡◌ {A = ℕ} 0x41 7 = ap (λ (l : List ℕ). get_or l 0 0) same in
     omega (arith, wrong)

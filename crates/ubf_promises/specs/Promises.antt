@@ -1,11 +1,11 @@
 -- What UBF files promise, to be read without the proofs: of any writer, reader or walk, and of ours. Each statement is proved of ours in
 -- the file named beside it, and refuted for wrong programs in the files Wrong*.antt.
-use Rattle.std.specs.Prelude.{ℕ, ◌+◌, ◌-◌, ◌^◌, ◌≤◌, ◌<◌, Bool, true, cond, List, [], ◌∷◌, ◌++◌, ◌≡◌, eqb, leb, length, take, drop}
+use Rattle.refusals.specs.declared.Refusal.{Refusal}
+use Rattle.std.specs.Prelude.{ℕ, ◌+◌, ◌-◌, ◌^◌, ◌≤◌, ◌<◌, Bool, true, cond, List, [], ◌∷◌, ◌++◌, ◌≡◌, eqb, leb, length, take, drop, Ok, Option, Result}
 use Rattle.octets.specs.Octets.{Bytes, same_bytes, xor_words}
 use Rattle.kinds.specs.Kinds.{kind_of, base_of, number_of, fits_file}
 use Rattle.kinds.specs.declared.Kind.{Kind}
-use Rattle.kinds.specs.declared.Known.{Known}
-use Rattle.refusals.specs.Refusals.{no_room, file_ends, wrong_mark, wrong_type, wrong_start, wrong_image_length, not_zero_filled, wrong_image_check}
+use Rattle.refusals.specs.Refusals.{no_room, file_ends, wrong_mark, wrong_type, wrong_start, wrong_image_length, not_zero_filled, wrong_image_check, refusal_number}
 use Rattle.refusals.specs.Written.{Out, bytes_written, number_in, count_in, written}
 use Rattle.ubf_model.specs.Answers.{block_found, block_told, none_told, found_told, nth_told}
 use Rattle.ubf_model.specs.Block.{header_size, block_of, size_of, image_of, model_in, version_in, name_in, date_in}
@@ -14,8 +14,6 @@ use Rattle.ubf_model.specs.Block.{model_size, version_size, name_size, date_size
 use Rattle.ubf_model.specs.Pack.{Fields, filled, block_bytes, bytes_of, texts_in, pairs, fits, pack_of}
 use Rattle.ubf_model.specs.Walk.{Standing, Ending, whole, fault, Walked, ends, walk_of, block_at}
 use Rattle.ubf_model.specs.declared.block.Block.{Block}
-use Rattle.ubf_model.specs.declared.block.Found.{Found}
-use Rattle.ubf_model.specs.declared.block.Found.TheVariants.{Whole}
 use Rattle.ubf_model.specs.declared.walk.Nth.{Nth}
 use Rattle.ubf_model.specs.declared.walk.Nth.TheVariants as nth
 
@@ -27,7 +25,7 @@ Writer = Fields → List ℕ → Out
 
 -- A reader is given bytes that a block begins: the block, its texts, and the image of the block that it found.
 pub record Reader : Type 0 where
-  pub block : List ℕ → Found
+  pub block : List ℕ → Result Block Refusal
   pub model : List ℕ → List ℕ
   pub version : List ℕ → List ℕ
   pub name : List ℕ → List ℕ
@@ -71,7 +69,7 @@ pub record ReadAs (read : Reader) (k : Kind) (f : Fields) (s : List ℕ) : Type 
   pub version : read.version s ≡ filled version_size f.version
   pub name : read.name s ≡ filled name_size f.name
   pub date : read.date s ≡ filled date_size f.date
-  pub image : (b : Block) → read.block s ≡ Whole b → read.image b s ≡ f.image
+  pub image : (b : Block) → read.block s ≡ Ok b → read.image b s ≡ f.image
 
 -- What is read (ReadWritten.antt). A block is read again, whatever follows it.
 abbrev pub ReadWrittenOf : Reader → Type 0
@@ -116,7 +114,7 @@ fields_read read b s = record {
 -- The way back (WrittenRead.antt). What was read is written again as the same bytes, wherever the output has room.
 abbrev pub WrittenReadOf : Writer → Reader → Type 0
 WrittenReadOf write read =
-    (s : List ℕ) (b : Block) → Bytes s → read.block s ≡ Whole b
+    (s : List ℕ) (b : Block) → Bytes s → read.block s ≡ Ok b
     → (output : List ℕ) → size_of b ≤ length output → write (fields_read read b s) output ≡ written (take (size_of b) s) output
 
 abbrev pub WrittenRead : Type 0
@@ -124,13 +122,13 @@ WrittenRead = WrittenReadOf pack_of our_reader
 
 -- ---- refusals
 
--- Tests with their numbers, in order: the number of the first that fails, or another where all hold.
-abbrev pub first_failing : List (ℕ × Bool) → ℕ → ℕ
+-- Tests with their refusals, in order: the number of the first that fails, or another where all hold.
+abbrev pub first_failing : List (Refusal × Bool) → ℕ → ℕ
 first_failing [] passing = passing
-first_failing (t ∷ ts) passing = cond t.1 (first_failing ts passing) t.0
+first_failing (t ∷ ts) passing = cond t.1 (first_failing ts passing) (refusal_number t.0)
 
 -- The checks of a block behind its mark: type and address, image length, CS, image and check there, zeros, check.
-abbrev pub type_checks : Known → List ℕ → List (ℕ × Bool)
+abbrev pub type_checks : Option Kind → List ℕ → List (Refusal × Bool)
 type_checks type s =
     (wrong_type, pairs type (address_in s))
     ∷ (wrong_image_length, fits type (length_in s))
@@ -141,7 +139,7 @@ type_checks type s =
     ∷ []
 
 -- All of them: header there, mark, and those.
-abbrev pub block_checks : List ℕ → List (ℕ × Bool)
+abbrev pub block_checks : List ℕ → List (Refusal × Bool)
 block_checks s = (file_ends, leb header_size (length s)) ∷ (wrong_mark, same_bytes (mark_in s) mark) ∷ type_checks (kind_of (type_in s)) s
 
 -- Which bytes are refused, and with which number (Refused.antt).
@@ -152,7 +150,7 @@ abbrev pub ReadRefused : Type 0
 ReadRefused = ReadRefusedOf our_reader
 
 -- The tests of the writer: the same but for mark, gap and what the file must hold; then the room.
-abbrev pub field_tests : Fields → List ℕ → List (ℕ × Bool)
+abbrev pub field_tests : Fields → List ℕ → List (Refusal × Bool)
 field_tests f output =
     (wrong_type, pairs (kind_of f.number) f.address)
     ∷ (wrong_image_length, fits (kind_of f.number) (length f.image))
@@ -178,14 +176,14 @@ PackRefused = PackRefusedOf pack_of
 abbrev pub LaidOut : List ℕ → ℕ → List Standing → ℕ → Type 0
 LaidOut file from [] end = from ≡ end
 LaidOut file from (b ∷ bs) end =
-    (b.place ≡ from) × (block_of (drop from file) ≡ Whole b.block) × LaidOut file (from + size_of b.block) bs end
+    (b.place ≡ from) × (block_of (drop from file) ≡ Ok b.block) × LaidOut file (from + size_of b.block) bs end
 
 -- A walk from a place on that ends with the file has laid out all of it, and the file is not empty. One that ends at a fault has
 -- laid out all before it, the block there is refused with that number, and bytes of the file stand there unless it is empty.
 abbrev pub EndsFrom : List ℕ → ℕ → List Standing → Ending → Type 0
 EndsFrom file from bs whole = LaidOut file from bs (length file) × (0 < length file)
-EndsFrom file from bs (fault number place) =
-    LaidOut file from bs place × (found_told (block_of (drop place file)) ≡ none_told number 0 0) × (place ≤ length file - 1)
+EndsFrom file from bs (fault refusal place) =
+    LaidOut file from bs place × (found_told (block_of (drop place file)) ≡ none_told (refusal_number refusal) 0 0) × (place ≤ length file - 1)
 
 -- U2 (Laid.antt). The walk's blocks, laid end to end, are the file; or the first faulty block's number and place are given, and the
 -- blocks before it are right. No good file is called faulty at its end, and an empty one is not whole.
@@ -204,10 +202,10 @@ pub record Before (file : List ℕ) (count place : ℕ) : Type 0 where
 -- What an answer to the search for the n-th block owes. A block found is read at its place, behind n others; where the blocks are too
 -- few, all are counted; at a fault the block is refused, and those before it are counted.
 abbrev pub NthStands : List ℕ → ℕ → Nth → Type 0
-NthStands file n (nth.Found b place) = Before file n place × (block_of (drop place file) ≡ Whole b)
+NthStands file n (nth.Found b place) = Before file n place × (block_of (drop place file) ≡ Ok b)
 NthStands file n (nth.Past count) = Before file count (length file) × (count ≤ n) × (0 < length file)
-NthStands file n (nth.Refused number place count) =
-    Before file count place × (count ≤ n) × (found_told (block_of (drop place file)) ≡ none_told number 0 0)
+NthStands file n (nth.Refused refusal place count) =
+    Before file count place × (count ≤ n) × (found_told (block_of (drop place file)) ≡ none_told (refusal_number refusal) 0 0)
 
 -- U2, the n-th block (Nth.antt), counted from 0.
 abbrev pub NthLaidOf : (ℕ → List ℕ → Nth) → Type 0
@@ -219,7 +217,7 @@ NthLaid = NthLaidOf block_at
 -- An empty file is refused with 4 (Laid.antt): a walk over it finds no block and ends with 4 at place 0, and whichever block is asked
 -- for, the answer is 4 at place 0, with no block before it.
 abbrev pub EmptyFileOf : (List ℕ → Walked) → (ℕ → List ℕ → Nth) → Type 0
-EmptyFileOf walk search = (walk [] ≡ ends (fault file_ends 0)) × ((n : ℕ) → nth_told (search n []) ≡ none_told file_ends 0 0)
+EmptyFileOf walk search = (walk [] ≡ ends (fault file_ends 0)) × ((n : ℕ) → nth_told (search n []) ≡ none_told (refusal_number file_ends) 0 0)
 
 abbrev pub EmptyFile : Type 0
 EmptyFile = EmptyFileOf walk_of block_at

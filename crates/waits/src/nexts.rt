@@ -4,6 +4,7 @@ ghost use Rattle.host_model.specs.Nexts.{after_repeats, resend_next, move_next, 
 
 use crate::waits::{MOST_REPEATS, first_stage, limit, loadable, waiting};
 use host_model::{Answer, Event, Move, Next, Plan, Wait};
+use refusals::Refusal;
 
 // What follows an event, over an image of this length. Payload and line are the first count bytes of the slice, or all of it where
 // it is shorter.
@@ -35,11 +36,8 @@ fn move_next(wait: Wait, go: Move) -> Next
         Move::Enter(next) => Next::Sends(waiting(plan, next, 0, 0)),
         Move::Await(next) => Next::Waits(waiting(plan, next, 0, wait.repeats)),
         Move::Resend => resend_next(wait),
-        Move::Refuse { number, passed } => Next::Fails {
-            number: number,
-            passed: passed,
-        },
-        Move::TooMany => Next::Ends(Answer::Refused(refusals::WRONG_PIECES)),
+        Move::Refuse { refusal, passed } => Next::Fails { refusal, passed },
+        Move::TooMany => Next::Ends(Answer::Refused(Refusal::WrongPieces)),
         Move::Finish => Next::Ends(Answer::Done),
     }
 }
@@ -76,7 +74,7 @@ fn resend_next(wait: Wait) -> Next
 fn after_repeats(wait: Wait) -> Next
     ensures { result ≡ after_repeats wait }
 {
-    Next::Ends(Answer::Refused(refusals::NO_ANSWER))
+    Next::Ends(Answer::Refused(Refusal::NoAnswer))
 }
 
 // An opening with a known type.
@@ -87,7 +85,7 @@ pub fn plan_next(plan: Plan, image: usize) -> Next
     let first = plan.first;
     let kind = plan.kind;
     if !loadable(kind, image) {
-        return Next::Ends(Answer::Refused(refusals::WRONG_IMAGE_LENGTH));
+        return Next::Ends(Answer::Refused(Refusal::WrongImageLength));
     }
     Next::Sends(waiting(plan, first_stage(start, first), 0, 0))
 }

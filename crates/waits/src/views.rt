@@ -4,7 +4,7 @@ ghost use Rattle.pieces.specs.Pieces.{count_of};
 ghost use Rattle.host_model.specs.declared.plan.Stage.TheVariants.{Asking};
 ghost use Rattle.host_model.specs.Views.{progress_of, stage_progress, message_rate};
 
-use host_model::{LineRate, Progress, Rate, Stage};
+use host_model::{Progress, Rate, Stage};
 
 // Packets accepted and in all.
 pub fn stage_progress(stage: Stage, image: usize) -> Progress
@@ -40,25 +40,25 @@ fn counted(accepted: usize, total: usize) -> Progress
 }
 
 // The rate that the line should have for a message that was resent so often.
-pub fn message_rate(stage: Stage, repeats: u32) -> LineRate
+pub fn message_rate(stage: Stage, repeats: u32) -> Option<Rate>
     ensures { result ≡ message_rate stage repeats }
 {
     match stage {
-        Stage::Text => LineRate::AsItWas,
+        Stage::Text => None,
         Stage::Asking(rate) => asking_rate(rate, repeats),
-        Stage::Declaring(rate) => LineRate::At(rate),
-        Stage::Sending { rate, size, number } => LineRate::At(rate),
-        Stage::Noticing { rate, size } => LineRate::At(rate),
-        Stage::Restarting { rate, size } => LineRate::At(rate),
+        Stage::Declaring(rate) => Some(rate),
+        Stage::Sending { rate, size, number } => Some(rate),
+        Stage::Noticing { rate, size } => Some(rate),
+        Stage::Restarting { rate, size } => Some(rate),
     }
 }
 
 // A module whose answer was lost has the rate already: every other repeat goes out at it.
-fn asking_rate(rate: Rate, repeats: u32) -> LineRate
+fn asking_rate(rate: Rate, repeats: u32) -> Option<Rate>
     ensures { result ≡ message_rate (Asking rate) repeats }
 {
     if repeats % 2 == 1 {
-        return LineRate::At(rate);
+        return Some(rate);
     }
-    LineRate::AsItWas
+    None
 }

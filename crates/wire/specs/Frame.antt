@@ -2,8 +2,6 @@
 use Rattle.std.specs.Prelude.{ℕ, ◌+◌, ◌-◌, ◌≤◌, ◌<◌, Bool, true, false, cond, List, [], ◌∷◌, ◌++◌, eqb, leb, length, get_or, take, drop}
 use Rattle.octets.specs.Octets.{Bytes, number_at, spelled, xor_of}
 use Rattle.wire.specs.Escape.{head_mark, tail_mark, escaped}
-use Rattle.wire.specs.declared.content.Verdict.{Verdict}
-use Rattle.wire.specs.declared.content.Verdict.TheVariants.{Good, Bad}
 
 -- What a frame says: its command and its payload.
 pub record Frame : Type 0 where
@@ -50,28 +48,19 @@ wire_form content = head_mark ∷ (escaped content ++ (tail_mark ∷ []))
 unfoldable pub wire_of : Frame → List ℕ
 wire_of f = wire_form (content_of f)
 
--- The verdict over content: that of a frame for our device if it has 5 to 1,035 bytes, Length equal to content minus 2, our device
+-- Content is that of a frame for our device if it has 5 to 1,035 bytes, Length equal to content minus 2, our device
 -- and the check right, in this order.
-unfoldable pub verdict_of : List ℕ → Verdict
-verdict_of c =
+unfoldable pub is_content : List ℕ → Bool
+is_content c =
     cond (leb shortest_content (length c))
     (cond (leb (length c) longest_content)
     (cond (eqb (number_at 2 c 0) (length c - 2))
     (cond (eqb (get_or c 2 0) device)
-    (cond (eqb (get_or c (length c - 1) 0) (xor_of (take (length c - 1) c))) Good
-    Bad)
-    Bad)
-    Bad)
-    Bad)
-    Bad
-
-abbrev pub is_good : Verdict → Bool
-is_good Good = true
-is_good Bad = false
-
--- Content is that of a frame.
-unfoldable pub is_content : List ℕ → Bool
-is_content c = is_good (verdict_of c)
+    (eqb (get_or c (length c - 1) 0) (xor_of (take (length c - 1) c)))
+    false)
+    false)
+    false)
+    false
 
 -- The frame that content carries.
 abbrev pub frame_in : List ℕ → Frame

@@ -7,9 +7,7 @@ use Rattle.octets.proofs.Lists.{bytes_take, bytes_drop, byte_at}
 use Rattle.octets.specs.Octets.{Bytes, number_at, spelled, xor_of}
 use Rattle.octets.proofs.OctetsLaws.{little_spelled, spelled_little}
 use Rattle.wire.specs.Frame.{Frame, frame, Acceptable, device, longest_payload, shortest_content, longest_content}
-use Rattle.wire.specs.Frame.{unchecked_of, content_of, verdict_of, is_good, is_content, frame_in}
-use Rattle.wire.specs.declared.content.Verdict.{Verdict}
-use Rattle.wire.specs.declared.content.Verdict.TheVariants.{Bad}
+use Rattle.wire.specs.Frame.{unchecked_of, content_of, is_content, frame_in}
 
 -- ---- the lengths
 
@@ -35,7 +33,7 @@ record Parts (c : List ℕ) : Type 0 where
 
 -- Where the facts hold, the test does.
 test_of_parts : (c : List ℕ) → Parts c → is_content c ≡ true
-unfolding is_content verdict_of
+unfolding is_content
 test_of_parts c p =
     rw (
       le-leb shortest_content (length c) p.long,
@@ -46,25 +44,24 @@ test_of_parts c p =
     )
 
 -- A good verdict has passed each test on its way.
-good_past : (t : Bool) (v : Verdict) → is_good (cond t v Bad) ≡ true → (t ≡ true) × (is_good v ≡ true)
+good_past : (t : Bool) (v : Bool) → cond t v false ≡ true → (t ≡ true) × (v ≡ true)
 good_past true v h = (refl, h)
 good_past false v h = absurd (false≢true h)
 
 -- Where the test holds, the facts do.
 parts_of_test : (c : List ℕ) → is_content c ≡ true → Parts c
-unfolding is_content verdict_of
+unfolding is_content
 parts_of_test c h =
     let size = good_past (leb shortest_content (length c)) _ h in
     let most = good_past (leb (length c) longest_content) _ size.1 in
     let count = good_past (eqb (number_at 2 c 0) (length c - 2)) _ most.1 in
     let ends = good_past (eqb (get_or c 2 0) device) _ count.1 in
-    let check = good_past (eqb (get_or c (length c - 1) 0) (xor_of (take (length c - 1) c))) _ ends.1 in
     record {
       long = leb-true shortest_content (length c) size.0;
       short = leb-true (length c) longest_content most.0;
       counted = eqb-true (number_at 2 c 0) (length c - 2) count.0;
       ours = eqb-true (get_or c 2 0) device ends.0;
-      checked = eqb-true (get_or c (length c - 1) 0) (xor_of (take (length c - 1) c)) check.0;
+      checked = eqb-true (get_or c (length c - 1) 0) (xor_of (take (length c - 1) c)) ends.1;
     }
 
 -- Content is never shorter than five bytes.

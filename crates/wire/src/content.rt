@@ -1,6 +1,6 @@
 // The content of a frame: Length, device, command, payload, check.
 ghost use Rattle.std.specs.Prelude.{◌≡◌, ◌+◌, ◌≤◌, length, take};
-ghost use Rattle.wire.specs.Frame.{longest_payload, longest_content, frame, content_of, verdict_of, is_content};
+ghost use Rattle.wire.specs.Frame.{longest_payload, longest_content, frame, content_of, is_content};
 
 const DEVICE: u8 = 0x01;
 
@@ -27,43 +27,22 @@ pub(crate) fn content_of(command: u8, payload: &[u8]) -> [u8; CONTENT_MOST]
     content
 }
 
-// What content is found to be: that of a frame for our device, or of none.
-#[derive(Clone, Copy)]
-pub enum Verdict {
-    Good,
-    Bad,
-}
-
-// The verdict over content.
-pub fn judge(content: &[u8]) -> Verdict
-    ensures { result ≡ verdict_of content.now }
-{
-    let n = content.len();
-    if n < CONTENT_LEAST {
-        return Verdict::Bad;
-    }
-    if CONTENT_MOST < n {
-        return Verdict::Bad;
-    }
-    if octets::two_at(content, 0) as usize != n - 2 {
-        return Verdict::Bad;
-    }
-    if octets::byte_at(content, 2) != DEVICE {
-        return Verdict::Bad;
-    }
-    if octets::byte_at(content, n - 1) != octets::xor(&content[..n - 1]) {
-        return Verdict::Bad;
-    }
-    Verdict::Good
-}
-
 // Whether content is that of a frame for our device.
 pub fn is_content(content: &[u8]) -> bool
     ensures { result ≡ is_content content.now }
 {
-    let found = judge(content);
-    match found {
-        Verdict::Good => true,
-        Verdict::Bad => false,
+    let n = content.len();
+    if n < CONTENT_LEAST {
+        return false;
     }
+    if CONTENT_MOST < n {
+        return false;
+    }
+    if octets::two_at(content, 0) as usize != n - 2 {
+        return false;
+    }
+    if octets::byte_at(content, 2) != DEVICE {
+        return false;
+    }
+    octets::byte_at(content, n - 1) == octets::xor(&content[..n - 1])
 }

@@ -6,6 +6,6 @@ mod content;
 mod escape;
 mod writer;
 
-pub use content::{CONTENT_LEAST, CONTENT_MOST, PAYLOAD_MOST, Verdict, is_content, judge};
+pub use content::{CONTENT_LEAST, CONTENT_MOST, PAYLOAD_MOST, is_content};
 pub use escape::{ESCAPE, HEAD, TAIL, may_follow, original};
 pub use writer::write;

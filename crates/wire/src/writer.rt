@@ -8,24 +8,24 @@ ghost use Rattle.wire.specs.Write.{write_of};
 
 use crate::content::{PAYLOAD_MOST, content_of};
 use crate::escape::{ESCAPE, HEAD, TAIL, is_mark, second};
-use refusals::Written;
+use refusals::Refusal;
 
 // Writes the wire form of a frame into the output.
-pub fn write(command: u8, payload: &[u8], out: &mut [u8]) -> Written
+pub fn write(command: u8, payload: &[u8], out: &mut [u8]) -> Result<usize, Refusal>
     ensures { record { answer = result; output = out.new }
         ≡ write_of (frame command payload.now) out.old }
 {
     let n = payload.len();
     if PAYLOAD_MOST < n {
-        return Written::Refused(refusals::PAYLOAD_TOO_LONG);
+        return Err(Refusal::PayloadTooLong);
     }
     let content = content_of(command, payload);
     let size = size_of(&content[..n + 5]);
     if out.len() < size {
-        return Written::Refused(refusals::NO_ROOM);
+        return Err(Refusal::NoRoom);
     }
     lay(&content[..n + 5], out);
-    Written::Count(size)
+    Ok(size)
 }
 
 // How long the wire form of content is.

@@ -8,7 +8,7 @@ use Rattle.kept_reader.proofs.step.Goals as goal
 
 pub returns-then-state-lt-READER_BYTES : goal.returns-then-state-lt-READER_BYTES
 unfolding kept_step
-returns-then-state-lt-READER_BYTES c = sym (cond_yes _ _ _ (lt-ltb _ _ c.if-state-lt-READER_BYTES.true))
+returns-then-state-lt-READER_BYTES c = rw c.number.ensures (sym (cond_yes _ _ _ (lt-ltb _ _ c.if-state-lt-READER_BYTES.true)))
 
 pub returns : goal.returns
 unfolding kept_step

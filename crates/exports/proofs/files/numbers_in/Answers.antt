@@ -3,8 +3,8 @@ use mathlib.Core.Path.{sym, ap, ◌∙◌}
 use Rattle.exports.specs.Flat.{found_flat}
 use Rattle.exports.proofs.files.numbers_in.Goals as goal
 
-pub returns-in-Whole : goal.returns-in-Whole
-returns-in-Whole c = c.with_block.ensures ∙ ap found_flat (sym c.in-Whole.is)
+pub returns-in-Ok : goal.returns-in-Ok
+returns-in-Ok c = c.with_block.ensures ∙ ap found_flat (sym c.in-Ok.is)
 
-pub returns-in-Refused : goal.returns-in-Refused
-returns-in-Refused c = c.without_block.ensures ∙ ap found_flat (sym c.in-Refused.is)
+pub returns-in-Err : goal.returns-in-Err
+returns-in-Err c = c.without_block.ensures ∙ rw c.number.ensures (ap found_flat (sym c.in-Err.is))

@@ -10,4 +10,4 @@ pub returns-in-Past : goal.returns-in-Past
 returns-in-Past c = c.without_block.ensures ∙ ap nth_flat (sym c.in-Past.is)
 
 pub returns-in-Refused : goal.returns-in-Refused
-returns-in-Refused c = c.without_block-in-Refused.ensures ∙ ap nth_flat (sym c.in-Refused.is)
+returns-in-Refused c = c.without_block-in-Refused.ensures ∙ rw c.number.ensures (ap nth_flat (sym c.in-Refused.is))

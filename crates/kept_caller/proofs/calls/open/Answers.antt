@@ -8,7 +8,7 @@ use Rattle.kept_caller.proofs.calls.open.Goals as goal
 
 pub returns-then-state-lt-CALLER_BYTES : goal.returns-then-state-lt-CALLER_BYTES
 unfolding kept_opening
-returns-then-state-lt-CALLER_BYTES c = sym (cond_yes _ _ _ (lt-ltb _ _ c.if-state-lt-CALLER_BYTES.true))
+returns-then-state-lt-CALLER_BYTES c = rw c.number.ensures (sym (cond_yes _ _ _ (lt-ltb _ _ c.if-state-lt-CALLER_BYTES.true)))
 
 pub returns : goal.returns
-returns c = opening_by_law _ _ _ _ _ _ _ _ _ _ _ _ _ c.if-state-lt-CALLER_BYTES.false c.begin-begun.ensures c.new.ensures c.keep.ensures c.told_of-says.ensures
+returns c = opening_by_law _ _ _ _ _ _ _ _ _ _ _ _ c.if-state-lt-CALLER_BYTES.false c.begin-begun.ensures c.new.ensures c.keep.ensures

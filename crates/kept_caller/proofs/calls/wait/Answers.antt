@@ -10,7 +10,7 @@ use Rattle.kept_caller.proofs.calls.wait.Goals as goal
 
 pub returns-then-state-lt-CALLER_BYTES : goal.returns-then-state-lt-CALLER_BYTES
 unfolding kept_waits
-returns-then-state-lt-CALLER_BYTES c = sym (cond_yes _ _ _ (lt-ltb _ _ c.if-state-lt-CALLER_BYTES.true))
+returns-then-state-lt-CALLER_BYTES c = rw c.number.ensures (sym (cond_yes _ _ _ (lt-ltb _ _ c.if-state-lt-CALLER_BYTES.true)))
 
 pub returns : goal.returns
 unfolding kept_waits

@@ -3,8 +3,8 @@ use mathlib.Core.Path.{sym, ap, ◌∙◌}
 use Rattle.host_model.specs.Views.{line_number}
 use Rattle.kept_host.proofs.answers.line_number.Goals as goal
 
-pub returns-in-AsItWas : goal.returns-in-AsItWas
-returns-in-AsItWas c = sym (ap line_number c.in-AsItWas.is)
+pub returns-in-None : goal.returns-in-None
+returns-in-None c = sym (ap line_number c.in-None.is)
 
-pub returns-in-At : goal.returns-in-At
-returns-in-At c = c.rate_number.ensures ∙ sym (ap line_number c.in-At.is)
+pub returns-in-Some : goal.returns-in-Some
+returns-in-Some c = c.rate_number.ensures ∙ sym (ap line_number c.in-Some.is)

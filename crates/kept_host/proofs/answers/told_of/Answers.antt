@@ -13,7 +13,7 @@ pub returns-in-Done : goal.returns-in-Done
 returns-in-Done c = sym (ap told_of c.in-Done.is)
 
 pub returns-in-Refused : goal.returns-in-Refused
-returns-in-Refused c = sym (ap told_of c.in-Refused.is)
+returns-in-Refused c = rw c.number.ensures (sym (ap told_of c.in-Refused.is))
 
 pub returns-in-Failed : goal.returns-in-Failed
-returns-in-Failed c = sym (ap told_of c.in-Failed.is)
+returns-in-Failed c = rw c.number-in-Failed.ensures (sym (ap told_of c.in-Failed.is))

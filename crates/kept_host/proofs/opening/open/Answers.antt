@@ -8,10 +8,10 @@ use Rattle.kept_host.proofs.opening.open.Goals as goal
 
 pub returns-then-state-lt-RECORD_BYTES : goal.returns-then-state-lt-RECORD_BYTES
 unfolding kept_opening
-returns-then-state-lt-RECORD_BYTES c = sym (cond_yes _ _ _ (lt-ltb _ _ c.if-state-lt-RECORD_BYTES.true))
+returns-then-state-lt-RECORD_BYTES c = rw c.number.ensures (sym (cond_yes _ _ _ (lt-ltb _ _ c.if-state-lt-RECORD_BYTES.true)))
 
 pub returns : goal.returns
 unfolding kept_opening
 returns c =
-    open_kept c.args.state.now _ _ _ _ _ c.begin-stepped.ensures c.write.ensures c.told_of-says.ensures
+    open_kept c.args.state.now _ _ _ _ c.begin-begun.ensures c.write.ensures
     ∙ sym (cond_no _ _ _ (le-ltb _ _ c.if-state-lt-RECORD_BYTES.false))

@@ -8,7 +8,7 @@ use Rattle.kept_module.proofs.calls.open.Goals as goal
 
 pub returns-then-state-lt-RECORD_BYTES : goal.returns-then-state-lt-RECORD_BYTES
 unfolding kept_opening
-returns-then-state-lt-RECORD_BYTES c = sym (cond_yes _ _ _ (lt-ltb _ _ c.if-state-lt-RECORD_BYTES.true))
+returns-then-state-lt-RECORD_BYTES c = rw c.number.ensures (sym (cond_yes _ _ _ (lt-ltb _ _ c.if-state-lt-RECORD_BYTES.true)))
 
 pub returns : goal.returns
 returns c = opening_by_law _ _ _ _ _ c.if-state-lt-RECORD_BYTES.false c.opening-first.ensures c.write.ensures c.number_of.ensures

@@ -10,7 +10,7 @@ use Rattle.kept_post.proofs.calls.hear.Goals as goal
 
 pub returns-then-state-lt-POST_BYTES : goal.returns-then-state-lt-POST_BYTES
 unfolding kept_hears
-returns-then-state-lt-POST_BYTES c = sym (cond_yes _ _ _ (lt-ltb _ _ c.if-state-lt-POST_BYTES.true))
+returns-then-state-lt-POST_BYTES c = rw c.number.ensures (sym (cond_yes _ _ _ (lt-ltb _ _ c.if-state-lt-POST_BYTES.true)))
 
 pub returns : goal.returns
 unfolding kept_hears

@@ -3,16 +3,16 @@ use Rattle.wire.specs.Frame.{frame}
 use Rattle.module.specs.StepLaws.{wrote_one, wrote_never}
 use Rattle.module.proofs.replies.one.Goals as goal
 
-pub returns-in-Count : goal.returns-in-Count
-returns-in-Count c =
+pub returns-in-Ok : goal.returns-in-Ok
+returns-in-Ok c =
     let a = c.args in
     let p = c.requires in
     let w = c.write-written in
-    wrote_one (frame a.command a.payload.now) a.reply.now p.0 p.1 _ _ _ w.ensures c.in-Count.is
+    wrote_one (frame a.command a.payload.now) a.reply.now p.0 p.1 _ _ _ w.ensures c.in-Ok.is
 
-pub returns-in-Refused : goal.returns-in-Refused
-returns-in-Refused c =
+pub returns-in-Err : goal.returns-in-Err
+returns-in-Err c =
     let a = c.args in
     let p = c.requires in
     let w = c.write-written in
-    absurd (wrote_never (frame a.command a.payload.now) a.reply.now p.0 p.1 _ _ _ w.ensures c.in-Refused.is)
+    absurd (wrote_never (frame a.command a.payload.now) a.reply.now p.0 p.1 _ _ _ w.ensures c.in-Err.is)

@@ -8,18 +8,18 @@ use Rattle.module.proofs.rules.parameters.Goals as goal
 pub returns-then-payload-ne-PARAMETERS_LENGTH : goal.returns-then-payload-ne-PARAMETERS_LENGTH
 returns-then-payload-ne-PARAMETERS_LENGTH c = c.unmoved_say.ensures ∙ sym (parameters_other _ _ _ c.if-payload-ne-PARAMETERS_LENGTH.true)
 
-pub returns-in-Is : goal.returns-in-Is
-returns-in-Is c =
+pub returns-in-Some : goal.returns-in-Some
+returns-in-Some c =
     let args = c.args in
     c.parameters_of.ensures
     ∙ ap (λ k. known_decision args.phase k args.payload.now args.flash)
-    (sym c.in-Is.is ∙ c.kind_of-known.ensures ∙ ap kind_of c.two_at.ensures)
+    (sym c.in-Some.is ∙ c.kind_of-known.ensures ∙ ap kind_of c.two_at.ensures)
     ∙ sym (parameters_ten _ _ _ c.if-payload-ne-PARAMETERS_LENGTH.false)
 
-pub returns-in-Unknown : goal.returns-in-Unknown
-returns-in-Unknown c =
+pub returns-in-None : goal.returns-in-None
+returns-in-None c =
     let args = c.args in
-    c.unmoved_say-in-Unknown.ensures
+    c.unmoved_say-in-None.ensures
     ∙ ap (λ k. known_decision args.phase k args.payload.now args.flash)
-    (sym c.in-Unknown.is ∙ c.kind_of-known.ensures ∙ ap kind_of c.two_at.ensures)
+    (sym c.in-None.is ∙ c.kind_of-known.ensures ∙ ap kind_of c.two_at.ensures)
     ∙ sym (parameters_ten _ _ _ c.if-payload-ne-PARAMETERS_LENGTH.false)

@@ -4,9 +4,9 @@ use Rattle.octets.specs.Octets.{laid}
 use Rattle.module_model.specs.Rules.{put_of}
 use Rattle.module.proofs.rules.store.Goals as goal
 
-pub returns-in-At : goal.returns-in-At
-returns-in-At c =
+pub returns-in-Some : goal.returns-in-Some
+returns-in-Some c =
     let args = c.args in
     c.copy.ensures
-    ∙ ap (laid args.flash.now c.in-At.at) c.behind.ensures
-    ∙ ap (λ k. put_of k args.payload.now args.flash.now) (sym c.in-At.is)
+    ∙ ap (laid args.flash.now c.in-Some.at) c.behind.ensures
+    ∙ ap (λ k. put_of k args.payload.now args.flash.now) (sym c.in-Some.is)

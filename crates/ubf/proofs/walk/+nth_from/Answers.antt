@@ -8,27 +8,27 @@ use Rattle.ubf.proofs.walk.+nth_from.Goals as goal
 pub returns-then-n-eq0 : goal.returns-then-n-eq0
 returns-then-n-eq0 t c =
     let a = c.args in
-    let whole = sym c.read.ensures ∙ c.in-Whole.is in
+    let whole = sym c.read.ensures ∙ c.in-Ok.is in
     rw c.if-n-eq0.true (sym (nth_here a.counted a.place a.rest.now _ whole))
 
 pub returns-then-rest-taken : goal.returns-then-rest-taken
 returns-then-rest-taken t c =
     let a = c.args in
-    let whole = sym c.read.ensures ∙ c.in-Whole.is in
+    let whole = sym c.read.ensures ∙ c.in-Ok.is in
     let within = block_within a.rest.now _ whole in
     let more : a.n ≡ suc (a.n - 1) = omega (arith, c.if-n-eq0.false) in
     rw (more, add-one) (sym (nth_last (a.n - 1) a.counted a.place a.rest.now _ whole (omega (arith, within, c.size-taken.ensures))))
 
-pub returns-in-Refused : goal.returns-in-Refused
-returns-in-Refused t c =
+pub returns-in-Err : goal.returns-in-Err
+returns-in-Err t c =
     let a = c.args in
-    sym (nth_refused a.n a.counted a.place _ a.rest.now (sym c.read.ensures ∙ c.in-Refused.is))
+    sym (nth_refused a.n a.counted a.place _ a.rest.now (sym c.read.ensures ∙ c.in-Err.is))
 
 pub returns-else-rest-taken : goal.returns-else-rest-taken
 returns-else-rest-taken t c =
     let a = c.args in
-    let whole = sym c.read.ensures ∙ c.in-Whole.is in
-    let found = c.in-Whole.block in
+    let whole = sym c.read.ensures ∙ c.in-Ok.is in
+    let found = c.in-Ok.block in
     let taken = c.size-taken.ensures in
     let more : a.n ≡ suc (a.n - 1) = omega (arith, c.if-n-eq0.false) in
     let rest : c.behind.result.now ≡ drop (size_of found) a.rest.now = c.behind.ensures ∙ ap (λ k. drop k a.rest.now) taken in

@@ -15,25 +15,25 @@ unfolding block_of
 returns-then-not-marked c =
     sym (cond_yes _ _ _ (le-leb header_size _ c.if-s-lt-HEADER_SIZE.false) ∙ cond_no _ _ _ (sym c.marked.ensures ∙ c.if-not-marked.true))
 
-pub returns-in-Is : goal.returns-in-Is
+pub returns-in-Some : goal.returns-in-Some
 unfolding block_of
-returns-in-Is c =
+returns-in-Some c =
     let passed-both : known_block (kind_of (type_in c.args.s.now)) c.args.s.now
     ≡ block_of c.args.s.now = sym
     (cond_yes _ _ _ (le-leb header_size _ c.if-s-lt-HEADER_SIZE.false)
     ∙ cond_yes _ _ _ (sym c.marked.ensures ∙ c.if-not-marked.false)) in
     let s = c.args.s.now in
     c.read_kind.ensures
-    ∙ ap (λ k. known_block k s) (sym c.in-Is.is ∙ c.kind_of.ensures ∙ ap kind_of c.two_at.ensures)
+    ∙ ap (λ k. known_block k s) (sym c.in-Some.is ∙ c.kind_of.ensures ∙ ap kind_of c.two_at.ensures)
     ∙ passed-both
 
-pub returns-in-Unknown : goal.returns-in-Unknown
+pub returns-in-None : goal.returns-in-None
 unfolding block_of
-returns-in-Unknown c =
+returns-in-None c =
     let passed-both : known_block (kind_of (type_in c.args.s.now)) c.args.s.now
     ≡ block_of c.args.s.now = sym
     (cond_yes _ _ _ (le-leb header_size _ c.if-s-lt-HEADER_SIZE.false)
     ∙ cond_yes _ _ _ (sym c.marked.ensures ∙ c.if-not-marked.false)) in
     let s = c.args.s.now in
-    ap (λ k. known_block k s) (sym c.in-Unknown.is ∙ c.kind_of.ensures ∙ ap kind_of c.two_at.ensures)
+    ap (λ k. known_block k s) (sym c.in-None.is ∙ c.kind_of.ensures ∙ ap kind_of c.two_at.ensures)
     ∙ passed-both

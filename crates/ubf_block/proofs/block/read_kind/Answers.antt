@@ -1,4 +1,5 @@
 -- `ubf_block::read_kind`: the tests in document 01's order; each that fails decides.
+use Rattle.std.specs.Prelude.{Ok}
 use Prim.Native.Nat.{◌+◌}
 use mathlib.Core.Bool.{true}
 use mathlib.Core.Path.{◌≡◌, sym, ap, ap₂, ◌∙◌}
@@ -10,7 +11,6 @@ use Rattle.octets.proofs.Choice.{cond_yes, cond_no}
 use Rattle.octets.specs.Octets.{number_at, part_of, xor_words}
 use Rattle.kinds.specs.Kinds.{base_of, fits_file}
 use Rattle.ubf_model.specs.Block.{header_size, length_in, address_in, start_in, image_in, check_in, filled_in, kind_block}
-use Rattle.ubf_model.specs.declared.block.Found.TheVariants.{Whole}
 use Rattle.ubf_block.proofs.block.read_kind.Goals as goal
 
 pub returns-then-four_at-base_of : goal.returns-then-four_at-base_of
@@ -110,7 +110,7 @@ returns c =
     c.four_at-check.ensures ∙ ap (number_at 4 c.args.s.now) (omega arith) in
     let xor_is : c.xor_of_part.result ≡ xor_words (image_in c.args.s.now) = c.xor_of_part.ensures
     ∙ ap₂ (λ at n. xor_words (part_of c.args.s.now at n)) (from_is) (long-is) in
-    (λ i. Whole (record {
+    (λ i. Ok (record {
       kind = c.args.kind;
       extent = c.four_at-extent.ensures i;
       start = c.four_at-start.ensures i;

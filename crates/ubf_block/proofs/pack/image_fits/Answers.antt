@@ -3,9 +3,9 @@ use mathlib.Core.Path.{sym, ap, ◌∙◌}
 use Rattle.ubf_model.specs.Pack.{fits}
 use Rattle.ubf_block.proofs.pack.image_fits.Goals as goal
 
-pub returns-in-Is : goal.returns-in-Is
-returns-in-Is c =
-    c.fits_file.ensures ∙ ap (λ k. fits k c.args.extent) (sym c.in-Is.is ∙ c.kind_of.ensures)
+pub returns-in-Some : goal.returns-in-Some
+returns-in-Some c =
+    c.fits_file.ensures ∙ ap (λ k. fits k c.args.extent) (sym c.in-Some.is ∙ c.kind_of.ensures)
 
-pub returns-in-Unknown : goal.returns-in-Unknown
-returns-in-Unknown c = ap (λ k. fits k c.args.extent) (sym c.in-Unknown.is ∙ c.kind_of.ensures)
+pub returns-in-None : goal.returns-in-None
+returns-in-None c = ap (λ k. fits k c.args.extent) (sym c.in-None.is ∙ c.kind_of.ensures)

@@ -1,4 +1,5 @@
 -- `ubf_block::write`: the tests come in document 01's order and before the first byte; then header and image are laid.
+use Rattle.std.specs.Prelude.{Ok}
 use Prim.Native.Nat.{ℕ, ◌+◌, ◌-◌, ◌≤◌}
 use mathlib.Core.Bool.{true}
 use mathlib.Core.List.{List}
@@ -13,7 +14,6 @@ use Rattle.kinds.specs.Kinds.{kind_of}
 use Rattle.ubf_model.specs.Block.{header_size, texts_fit}
 use Rattle.ubf_model.specs.Pack.{Fields, gathered, bytes_of, block_bytes, body_pieces, pairs, fits, pack_of}
 use Rattle.ubf_model.proofs.PackLaws.{texts_of_test, length_block, block_built, body_built, fits_short}
-use Rattle.refusals.specs.declared.Written.TheVariants.{Count}
 use Rattle.ubf_block.proofs.pack.write.Goals as goal
 
 abbrev laidBehind : List ℕ → List ℕ → ℕ → List ℕ
@@ -105,7 +105,7 @@ returns c =
     ∙ body_built f _ behind
     ∙ ap (λ l. lay_all l header_size (body_pieces f)) c.lay_header.ensures
     ∙ block_built f a.out.now behind texts room in
-    (λ i. record { answer = Count (size i); output = put i })
+    (λ i. record { answer = Ok (size i); output = put i })
     ∙
     sym
     (cond_yes _ _ _ (pairs-passed)

@@ -9,19 +9,19 @@ use Rattle.host.specs.Step.{left, failed_of}
 use Rattle.host.specs.StepLaws.{sends_counted, sends_refused}
 use Rattle.host.proofs.session.Session.fails.Goals as goal
 
-pub returns-in-Refused : goal.returns-in-Refused
-returns-in-Refused c =
+pub returns-in-Err : goal.returns-in-Err
+returns-in-Err c =
     let a = c.args in
     let sent = c.send_restart-sent in
-    ap (λ x. left x sent.new.out) c.answers-in-Refused.ensures
+    ap (λ x. left x sent.new.out) c.answers-in-Err.ensures
     ∙ sends_refused a.self (goes_out restart_frame) a.out.now sent.result sent.new.out sent.ensures _ _
-    c.in-Refused.is
+    c.in-Err.is
 
-pub returns-in-Count : goal.returns-in-Count
-returns-in-Count c =
+pub returns-in-Ok : goal.returns-in-Ok
+returns-in-Ok c =
     let a = c.args in
     let sent = c.send_restart-sent in
     ap (λ x. left x sent.new.out) c.answers.ensures
-    ∙ ap (λ s. left (stepped s (Failed a.number a.passed c.in-Count.n)) sent.new.out) c.failed.ensures
+    ∙ ap (λ s. left (stepped s (Failed a.refusal a.passed c.in-Ok.n)) sent.new.out) c.failed.ensures
     ∙ sends_counted a.self (goes_out restart_frame) a.out.now sent.result sent.new.out sent.ensures
-    (λ n. stepped (failed_of a.self (length a.image.now)) (Failed a.number a.passed n)) _ c.in-Count.is
+    (λ n. stepped (failed_of a.self (length a.image.now)) (Failed a.refusal a.passed n)) _ c.in-Ok.is

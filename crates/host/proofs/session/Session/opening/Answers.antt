@@ -10,22 +10,22 @@ use Rattle.host.proofs.session.Session.opening.Goals as goal
 pub performs-requires : goal.performs-requires
 performs-requires c = small_next_same _ _ (sym c.plan_next-next.ensures) (plan_small _ _)
 
-pub returns-in-Is : goal.returns-in-Is
+pub returns-in-Some : goal.returns-in-Some
 unfolding opening_of
-returns-in-Is c =
+returns-in-Some c =
     let a = c.args in
     let w : Wishes = record { first = a.first; wish = a.wish; start = a.start; same = a.same } in
-    let known = sym c.kind_of-known.ensures ∙ c.in-Is.is in
+    let known = sym c.kind_of-known.ensures ∙ c.in-Some.is in
     c.performs.ensures
     ∙ ap₂ (λ s n. performs s n a.image.now a.out.now) c.over.ensures c.plan_next-next.ensures
     ∙ sym (ap (λ k. known_opening k w a.image.now a.out.now) known)
 
-pub returns-in-Unknown : goal.returns-in-Unknown
+pub returns-in-None : goal.returns-in-None
 unfolding opening_of
-returns-in-Unknown c =
+returns-in-None c =
     let a = c.args in
     let w : Wishes = record { first = a.first; wish = a.wish; start = a.start; same = a.same } in
-    let unknown = sym c.kind_of-known.ensures ∙ c.in-Unknown.is in
+    let unknown = sym c.kind_of-known.ensures ∙ c.in-None.is in
     ap (λ x. left x a.out.now) c.answers.ensures
-    ∙ ap (λ s. left (stepped s (Refused wrong_type)) a.out.now) c.over-in-Unknown.ensures
+    ∙ ap (λ s. left (stepped s (Refused wrong_type)) a.out.now) c.over-in-None.ensures
     ∙ sym (ap (λ k. known_opening k w a.image.now a.out.now) unknown)

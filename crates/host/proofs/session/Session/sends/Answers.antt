@@ -9,23 +9,23 @@ use Rattle.host.specs.Step.{left}
 use Rattle.host.specs.StepLaws.{sends_counted, sends_refused}
 use Rattle.host.proofs.session.Session.sends.Goals as goal
 
-pub returns-in-Refused : goal.returns-in-Refused
-returns-in-Refused c =
+pub returns-in-Err : goal.returns-in-Err
+returns-in-Err c =
     let a = c.args in
     let w = a.wait in
     let sent = c.send-sent in
     let after = sent.new.out in
-    ap (λ x. left x after) c.answers-in-Refused.ensures
+    ap (λ x. left x after) c.answers-in-Err.ensures
     ∙ sends_refused a.self (message_of w.plan a.image.now w.stage) a.out.now sent.result after sent.ensures _ _
-    c.in-Refused.is
+    c.in-Err.is
 
-pub returns-in-Count : goal.returns-in-Count
-returns-in-Count c =
+pub returns-in-Ok : goal.returns-in-Ok
+returns-in-Ok c =
     let a = c.args in
     let w = a.wait in
     let sent = c.send-sent in
     let after = sent.new.out in
     ap (λ x. left x after) c.answers.ensures
-    ∙ ap (λ s. left (stepped s (Sent c.in-Count.n)) after) c.waiting.ensures
+    ∙ ap (λ s. left (stepped s (Sent c.in-Ok.n)) after) c.waiting.ensures
     ∙ sends_counted a.self (message_of w.plan a.image.now w.stage) a.out.now sent.result after sent.ensures
-    (λ n. stepped (session (length a.image.now) (Waiting w)) (Sent n)) _ c.in-Count.is
+    (λ n. stepped (session (length a.image.now) (Waiting w)) (Sent n)) _ c.in-Ok.is

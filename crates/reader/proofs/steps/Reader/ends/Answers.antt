@@ -2,7 +2,7 @@
 use native.Mathlib.Omega.{arith}
 use mathlib.Core.Path.{sym, ap, ◌∙◌}
 use lib.ListN.{take, length-take}
-use Rattle.wire.specs.Frame.{is_good, is_content}
+use Rattle.wire.specs.Frame.{is_content}
 use Rattle.wire.specs.FrameLaws.{content_long}
 use Rattle.reader.specs.Reader.{answers, held_of, judged_by}
 use Rattle.reader.proofs.steps.Reader.ends.Goals as goal
@@ -11,19 +11,18 @@ pub overflow_sub-count : goal.overflow_sub-count
 unfolding is_content
 overflow_sub-count c =
     let r = c.args.self in
-    let good = ap is_good (sym c.judged-verdict.ensures ∙ c.in-Good.is) in
-    omega (arith, content_long (take r.count r.store) good, length-take r.count r.store)
+    omega (arith, content_long (take r.count r.store) (sym c.is_frame.ensures ∙ c.if-is_frame.true), length-take r.count r.store)
 
-pub returns-in-Good : goal.returns-in-Good
+pub returns-then-is_frame : goal.returns-then-is_frame
 unfolding held_of
-returns-in-Good c =
+returns-then-is_frame c =
     let r = c.args.self in
-    let found = sym c.in-Good.is ∙ c.judged-verdict.ensures in
+    let found = sym c.if-is_frame.true ∙ c.is_frame.ensures in
     c.answers.ensures ∙ ap (answers _) c.closed.ensures ∙ ap (λ v. judged_by v r) found
 
-pub returns-in-Bad : goal.returns-in-Bad
+pub returns : goal.returns
 unfolding held_of
-returns-in-Bad c =
+returns c =
     let r = c.args.self in
-    let found = sym c.in-Bad.is ∙ c.judged-verdict.ensures in
-    c.answers-in-Bad.ensures ∙ ap (answers _) c.closed-in-Bad.ensures ∙ ap (λ v. judged_by v r) found
+    let found = sym c.if-is_frame.false ∙ c.is_frame.ensures in
+    c.answers-2.ensures ∙ ap (answers _) c.closed-2.ensures ∙ ap (λ v. judged_by v r) found
