@@ -2,6 +2,8 @@
 use Rattle.std.specs.Prelude.{ℕ, ◌+◌, ◌≤◌, ◌<◌, true, false, List, [], ◌∷◌, ◌++◌, ◌≡◌, refl, length, get_or, take, drop, set}
 use Rattle.std.proofs.Common.{append_assoc, sym, ap, ◌∙◌, add-one, arith, length-append, take-append-drop, take-suc, take_all}
 use Rattle.std.proofs.lemmas.List.Edits.{sets}
+use Rattle.std.specs.List.{sum_by}
+use Rattle.std.proofs.lemmas.List.Recursion.{is_sum_by}
 use Rattle.octets.specs.Octets.{spelled, xor_of, laid, over}
 use borrow.Author.Tests.{lt-ltb, le-ltb}
 use Rattle.octets.proofs.OctetsLaws.{over_nil, over_laid, over_put, over_sets, over_over, length_over, length_spelled}
@@ -45,6 +47,11 @@ escaped_more s i h = rw (add-one, take-suc s i 0) (escaped_snoc (take i s) (get_
 
 begun_more : (s : List ℕ) (i : ℕ) → i < length s → begun s (i + 1) ≡ begun s i ++ escape_of (get_or s i 0)
 begun_more s i h = ap (λ (l : List ℕ). head_mark ∷ l) (escaped_more s i h)
+
+-- The bytes on the wire are those that each content byte takes.
+pub widths : (s : List ℕ) → sum_by (λ b. length (escape_of b)) s ≡ length (escaped s)
+unfolding escaped
+widths s = sym (is_sum_by (λ l. length (escaped l)) (λ b. length (escape_of b)) refl (λ b l. length-append (escape_of b) (escaped l)) s)
 
 -- The first bytes take no more than all of them.
 escaped_prefix : (s : List ℕ) (i : ℕ) → length (escaped (take i s)) ≤ length (escaped s)
