@@ -6,7 +6,7 @@ use Rattle.std.specs.Option.{unwrap_or}
 use Rattle.std.specs.Int.{w16, w32, w64, to_le_bytes, from_le_bytes}
 use Rattle.std.specs.Cmp.Lexicographic.{pointwise}
 use Rattle.std.specs.Int.Bits.{bit_xor}
-use Rattle.std.proofs.Common.{ap, ◌∙◌, arith, rules, length-append, length-take, drop_of_length-le, take_all, drop-drop}
+use Rattle.std.proofs.Common.{ap, ◌∙◌, arith, rules, length-append, length-take, drop_of_length-le, append-nil, take_all, drop-drop}
 use Rattle.std.proofs.lemmas.List.{drop-replicate, length-replicate}
 use Rattle.std.proofs.lemmas.List.Recursion.{is_position_or_len}
 use Rattle.std.proofs.Math.Decide.{dec_le}
@@ -121,6 +121,15 @@ four_read s at bs e = rw e (little_four (filled 4 s at) (number_filled 4 s at).0
 pub eight_read : (s : List ℕ) (at : ℕ) (bs : List ℕ) → bs ≡ laid (replicate 8 0) 0 (part_of s at 8) → from_le_bytes w64 bs ≡ number_at 8 s at
 unfolding filled
 eight_read s at bs e = rw e (little_eight (filled 8 s at) (number_filled 8 s at).0 ∙ (number_filled 8 s at).1)
+
+-- Where all bytes are there, they are what is read.
+pub whole_read : (n : ℕ) (bs : List ℕ) → length bs ≡ n → laid (replicate n 0) 0 bs ≡ bs
+unfolding laid
+whole_read n bs e =
+    let size : length (replicate {A = ℕ} n 0) ≡ n = length-replicate n 0 in
+    let whole : take (length (replicate {A = ℕ} n 0) - 0) bs ≡ bs = take_all (length (replicate {A = ℕ} n 0) - 0) bs (omega arith) in
+    let none : drop (0 + length bs) (replicate {A = ℕ} n 0) ≡ [] = drop_of_length-le (replicate {A = ℕ} n 0) (omega arith) in
+    rw (whole, none) (append-nil bs)
 
 -- ---- words of four bytes
 

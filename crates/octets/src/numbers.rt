@@ -16,8 +16,13 @@ pub fn byte_at(s: &[u8], at: usize) -> u8
 pub fn bytes_at<const N: usize>(s: &[u8], at: usize) -> [u8; N]
     ensures { result ≡ laid (replicate N 0) 0 (part_of s.now at N) }
 {
+    let there = part(s, at, N);
+    // Most reads find all N, and these need no copy of a length that is not known.
+    if let Some(whole) = there.first_chunk::<N>() {
+        return *whole;
+    }
     let mut bytes = [0; N];
-    copy(part(s, at, N), &mut bytes, 0);
+    copy(there, &mut bytes, 0);
     bytes
 }
 
