@@ -1,5 +1,5 @@
 -- `wire::writer::lay`: the head and the content bytes so far stand at the front.
-use Rattle.std.proofs.Common.{ℕ, ◌+◌, ◌<◌, List, [], ◌≡◌, ◌∙◌, refl, sym, ap, arith, length, length-set}
+use Rattle.std.proofs.Common.{ℕ, ◌+◌, ◌<◌, List, [], ◌∙◌, refl, sym, arith, length, length-set}
 use Rattle.std.specs.Prelude.{set}
 use Rattle.wire.specs.Escape.{head_mark, escaped}
 use Rattle.wire.specs.Frame.{wire_form}

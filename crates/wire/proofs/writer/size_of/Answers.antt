@@ -1,7 +1,7 @@
 -- `wire::writer::size_of`: head, tail and what each content byte takes.
-use Rattle.std.proofs.Common.{◌≡◌, ◌*◌, ◌≤◌, ◌∙◌, sym, arith, rules, length}
+use Rattle.std.proofs.Common.{◌≡◌, arith, rules, length}
 use Rattle.std.specs.List.{sum_by}
-use Rattle.wire.specs.Escape.{escaped, escape_of}
+use Rattle.wire.specs.Escape.{escape_of}
 use Rattle.wire.specs.WriteLaws.{widths, wire_size}
 use Rattle.wire.specs.EscapeLaws.{escaped_size}
 use Rattle.wire.proofs.writer.size_of.Goals as goal
