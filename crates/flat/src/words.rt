@@ -4,28 +4,23 @@ ghost use Rattle.octets.specs.Octets.{number_at};
 ghost use Rattle.flat.specs.Words.{low_half, high_half, recorded};
 
 // Writes the words at the front of the buffer, or nothing where they have no room.
+#[tactic(auto, using(crate::specs::WordsLaws::words_laid), unfolding(crate::specs::Words::recorded, crate::specs::Words::spelled_all, octets::specs::Octets::over))]
 pub fn store(words: &[u32], state: &mut [u8])
     ensures { state.new ≡ recorded words.now state.old }
 {
-    if state.len() / 4 < words.len() {
-        return;
-    }
-    let mut i = 0;
-    while i < words.len() {
-        octets::put_four(state, i * 4, words[i]);
-        i += 1;
+    if words.len() <= state.len() / 4 {
+        for (i, &word) in words.iter().enumerate() {
+            octets::put_four(state, i * 4, word);
+        }
     }
 }
 
 // The number in the eight bytes from a place on.
+#[tactic(auto, using(octets::proofs::Words::eight_read))]
 pub fn eight_at(s: &[u8], at: usize) -> usize
     ensures { result ≡ number_at 8 s.now at }
 {
-    if at < s.len() {
-        wide(octets::four_at(s, at)) + 4294967296 * wide(octets::four_at(s, at + 4))
-    } else {
-        0
-    }
+    usize::from_le_bytes(octets::bytes_at(s, at))
 }
 
 // The two words of a number of eight bytes.
@@ -38,7 +33,7 @@ pub fn low(x: usize) -> u32
 pub fn high(x: usize) -> u32
     ensures { result ≡ high_half x }
 {
-    (x / 4294967296 % 4294967296) as u32
+    (x >> 32) as u32
 }
 
 // A word as a size.

@@ -10,15 +10,12 @@ pub fn show(bytes: &[u8], out: &mut [u8]) -> usize
     ensures shown { record { count = result; output = out.new } ≡ show_of bytes.now out.old }
     ensures within { Front result out.new }
 {
-    let n = octets::least(bytes.len(), out.len() / 2);
-    let mut i = 0;
-    while i < n {
-        let byte = bytes[i];
+    let shown = octets::part(bytes, 0, out.len() / 2);
+    for (i, byte) in shown.iter().enumerate() {
         out[i * 2] = digit(byte / 16);
         out[i * 2 + 1] = digit(byte % 16);
-        i += 1;
     }
-    n * 2
+    shown.len() * 2
 }
 
 fn digit(n: u8) -> u8

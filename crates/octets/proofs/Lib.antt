@@ -3,3 +3,4 @@ pub mod OctetsLaws
 pub mod Lists
 pub mod Choice
 pub mod PartLaws
+pub mod Words

@@ -7,6 +7,6 @@ mod numbers;
 mod parts;
 mod runs;
 
-pub use numbers::{byte_at, four_at, put_four, put_two, two_at};
+pub use numbers::{byte_at, bytes_at, four_at, put_four, put_two, two_at};
 pub use parts::{behind, part, text_length, zero_filled};
 pub use runs::{copy, fill, least, same, xor, xor_words, zeros};

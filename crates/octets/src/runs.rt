@@ -5,74 +5,43 @@ ghost use Rattle.octets.specs.Octets.{xor_of, xor_words, all_zero, same_bytes, l
 use crate::numbers::four_at;
 
 // The xor of all bytes, 0 for none.
+#[tactic(auto, using(crate::proofs::Words::xor_folds))]
 pub fn xor(s: &[u8]) -> u8
     ensures { result ≡ xor_of s.now }
 {
-    let mut sum: u8 = 0;
-    let mut i = 0;
-    while i < s.len() {
-        sum = sum ^ s[i];
-        i += 1;
-    }
-    sum
+    s.iter().fold(0, |sum, &byte| sum ^ byte)
 }
 
 // The xor of the words of four bytes, low byte first; a rest that is no word is left out.
 pub fn xor_words(s: &[u8]) -> u32
     ensures { result ≡ xor_words s.now }
 {
-    let mut sum: u32 = 0;
-    let mut i = 0;
-    while i < s.len() / 4 {
-        sum = sum ^ four_at(s, i * 4);
-        i += 1;
-    }
-    sum
+    s.chunks_exact(4)
+        .fold(0, |sum, word| sum ^ four_at(word, 0))
 }
 
 // Whether every byte is zero.
 pub fn zeros(s: &[u8]) -> bool
     ensures { result ≡ all_zero s.now }
 {
-    let mut i = 0;
-    while i < s.len() {
-        if s[i] != 0 {
-            return false;
-        }
-        i += 1;
-    }
-    true
+    s.iter().all(|&byte| byte == 0)
 }
 
 // Whether two runs are the same, in length and byte for byte.
+#[tactic(auto, using(crate::proofs::Words::same_pointwise))]
 pub fn same(a: &[u8], b: &[u8]) -> bool
     ensures { result ≡ same_bytes a.now b.now }
 {
-    if a.len() != b.len() {
-        return false;
-    }
-    let mut i = 0;
-    while i < a.len() {
-        if a[i] != b[i] {
-            return false;
-        }
-        i += 1;
-    }
-    true
+    a == b
 }
 
 // s laid into d from a place on: as much of it as fits.
 pub fn copy(s: &[u8], d: &mut [u8], at: usize)
     ensures { d.new ≡ laid d.old at s.now }
 {
-    if d.len() <= at {
-        return;
-    }
-    let n = least(s.len(), d.len() - at);
-    let mut i = 0;
-    while i < n {
-        d[at + i] = s[i];
-        i += 1;
+    if at < d.len() {
+        let n = s.len().min(d.len() - at);
+        d[at..at + n].copy_from_slice(&s[..n]);
     }
 }
 
@@ -80,14 +49,9 @@ pub fn copy(s: &[u8], d: &mut [u8], at: usize)
 pub fn fill(d: &mut [u8], at: usize, n: usize, byte: u8)
     ensures { d.new ≡ laid d.old at (replicate n byte) }
 {
-    if d.len() <= at {
-        return;
-    }
-    let most = least(n, d.len() - at);
-    let mut i = 0;
-    while i < most {
-        d[at + i] = byte;
-        i += 1;
+    if at < d.len() {
+        let n = n.min(d.len() - at);
+        d[at..at + n].fill(byte);
     }
 }
 
@@ -95,5 +59,5 @@ pub fn fill(d: &mut [u8], at: usize, n: usize, byte: u8)
 pub fn least(a: usize, b: usize) -> usize
     ensures { result ≡ min a b }
 {
-    if a < b { a } else { b }
+    a.min(b)
 }

@@ -1,9 +1,11 @@
 -- The laws of Pieces.
 use Rattle.std.specs.Prelude.{ℕ, zero, suc, ◌+◌, ◌*◌, ◌-◌, ◌/◌, ◌≤◌, ◌<◌, List, [], ◌++◌, ◌≡◌, refl, length, take, drop}
-use Rattle.std.proofs.Common.{sym, ap, ◌∙◌, div-mul-le_self, div-le_self, mul-le-mul_right, suc-mul, div-lt_iff_lt-mul, le-div_iff_mul-le, add-one, arith, eq-eqb, ne_eqb, length-drop, drop_of_length-le, take_all, take-add}
+use Rattle.std.proofs.Common.{sym, ap, mod-eq_of_lt, ◌∙◌, div-mul-le_self, div-le_self, mul-le-mul_right, suc-mul, div-lt_iff_lt-mul, add-one, arith, eq-eqb, ne_eqb, length-drop, drop_of_length-le, take_all, take-add}
 use Rattle.std.proofs.Math.Nat.{add-div_right, div-eq_of_lt, div-eq_of_lt-le, lt-div-mul-add}
 use Rattle.std.proofs.Math.Decide.{dec_lt, ℕ_discrete}
 use Rattle.std.proofs.Math.Seq.{take-length, take-nil}
+use Rattle.std.specs.Int.{div_ceil}
+use Rattle.std.proofs.lemmas.Grind.{div_ceil_times}
 use Rattle.octets.specs.Octets.{part_of}
 use Rattle.octets.proofs.PartLaws.{length_part}
 use Rattle.pieces.specs.Pieces.{count_of, offset_of, size_at, piece_of}
@@ -58,6 +60,20 @@ count_only n size (suc t) h k c =
     let over : n ≤ (t + 1) * size = rw (add-one t) c.over in
     let whole : (n - 1) / size ≡ t = div-eq_of_lt-le {k = t} size {m = n - 1} (omega (arith, under)) (omega (arith, over)) in
     rw (count_step n size h k, whole) (add-one t)
+
+-- They are the length divided by the size and rounded up.
+pub count_ceil : (n size : ℕ) → 1 ≤ size → div_ceil n size ≡ count_of n size
+count_ceil zero size k = rw (count_none size, div-eq_of_lt {n = 0} {m = size} k, mod-eq_of_lt {n = 0} {m = size} k)
+count_ceil (suc m) size k =
+    let total : ℕ = div_ceil (suc m) size in
+    let bounds = div_ceil_times (suc m) size k in
+    sym
+    (count_only (suc m) size total (omega arith) k
+    (record { under = omega (arith, product_step total size (some total bounds.0), bounds.1); over = bounds.0 }))
+  where
+    some : (total : ℕ) → suc m ≤ total * size → 1 ≤ total
+    some zero h = absurd (omega (arith, h))
+    some (suc t) h = omega arith
 
 -- An image has a piece, and one of its own length has one.
 pub count_some : (n size : ℕ) → 1 ≤ n → 1 ≤ size → 1 ≤ count_of n size
@@ -194,13 +210,10 @@ take_more image size number one = rw (product_step number size one) (sym (take-a
 pub take_whole : (image : List ℕ) (size : ℕ) → 1 ≤ length image → 1 ≤ size → take (count_of (length image) size * size) image ≡ image
 take_whole image size h k = take_all (count_of (length image) size * size) image (counted (length image) size h k).over
 
--- Behind the last piece nothing is left; up to it a piece begins within the image.
+-- Behind the last piece nothing is left.
 pub piece_behind : (image : List ℕ) (size number : ℕ) → 1 ≤ size → length image / size < number - 1 → piece_of image size number ≡ []
 unfolding part_of
 piece_behind image size number some h =
     let far : length image < (number - 1) * size = (div-lt_iff_lt-mul some).0 h in
     let end : length image ≤ (number - 1) * size = omega (arith, far) in
     rw (drop_of_length-le image end) (take-nil size)
-
-pub piece_begins : (n size before : ℕ) → 1 ≤ size → before ≤ n / size → before * size ≤ n
-piece_begins n size before some h = (le-div_iff_mul-le some).0 h

@@ -8,13 +8,7 @@ ghost use Rattle.pieces.specs.Pieces.{count_of, size_at, piece_of};
 pub fn count(extent: usize, size: usize) -> usize
     ensures { result ≡ count_of extent size }
 {
-    if size == 0 {
-        return 0;
-    }
-    if extent == 0 {
-        return 0;
-    }
-    (extent - 1) / size + 1
+    if size == 0 { 0 } else { extent.div_ceil(size) }
 }
 
 // How long a piece is, by its number.
@@ -22,32 +16,26 @@ pub fn size_at(extent: usize, size: usize, number: usize) -> usize
     ensures { result ≡ size_at extent size number }
 {
     let total = count(extent, size);
-    if number != total {
-        return size;
+    if number == total {
+        extent - before(total) * size
+    } else {
+        size
     }
-    if total == 0 {
-        return extent;
-    }
-    extent - (total - 1) * size
 }
 
 // A piece of an image by its number, as a part of the image; empty behind the last one.
 pub fn piece(image: &[u8], size: usize, number: usize) -> &[u8]
     ensures { result.now ≡ piece_of image.now size number }
 {
-    if size == 0 {
-        return octets::part(image, 0, 0);
+    match before(number).checked_mul(size) {
+        Some(at) => octets::part(image, at, size),
+        None => &[],
     }
-    let before = before(number);
-    if image.len() / size < before {
-        return octets::part(image, image.len(), 0);
-    }
-    octets::part(image, before * size, size)
 }
 
 // How many pieces stand before one.
 pub fn before(number: usize) -> usize
     ensures { result ≡ number - 1 }
 {
-    if number == 0 { 0 } else { number - 1 }
+    number.saturating_sub(1)
 }

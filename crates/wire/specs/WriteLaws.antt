@@ -2,9 +2,11 @@
 use Rattle.std.specs.Prelude.{ℕ, ◌+◌, ◌≤◌, ◌<◌, true, false, List, [], ◌∷◌, ◌++◌, ◌≡◌, refl, length, get_or, take, drop, set}
 use Rattle.std.proofs.Common.{append_assoc, sym, ap, ◌∙◌, add-one, arith, length-append, take-append-drop, take-suc, take_all}
 use Rattle.std.proofs.lemmas.List.Edits.{sets}
+use Rattle.std.specs.List.{sum_by}
+use Rattle.std.proofs.lemmas.List.Recursion.{is_sum_by}
 use Rattle.octets.specs.Octets.{spelled, xor_of, laid, over}
 use borrow.Author.Tests.{lt-ltb, le-ltb}
-use Rattle.octets.proofs.OctetsLaws.{over_nil, over_laid, over_put, over_sets, over_over, length_over, length_spelled}
+use Rattle.octets.proofs.OctetsLaws.{over_nil, over_laid, over_put, over_sets, over_over, length_spelled}
 use Rattle.wire.specs.Escape.{head_mark, escape_mark, tail_mark, is_mark, second_of, escape_of, escaped}
 use Rattle.refusals.specs.Refusals.{payload_too_long, no_room}
 use Rattle.wire.specs.Write.{write_of}
@@ -45,6 +47,11 @@ escaped_more s i h = rw (add-one, take-suc s i 0) (escaped_snoc (take i s) (get_
 
 begun_more : (s : List ℕ) (i : ℕ) → i < length s → begun s (i + 1) ≡ begun s i ++ escape_of (get_or s i 0)
 begun_more s i h = ap (λ (l : List ℕ). head_mark ∷ l) (escaped_more s i h)
+
+-- The bytes on the wire are those that each content byte takes.
+pub widths : (s : List ℕ) → sum_by (λ b. length (escape_of b)) s ≡ length (escaped s)
+unfolding escaped
+widths s = sym (is_sum_by (λ l. length (escaped l)) (λ b. length (escape_of b)) refl (λ b l. length-append (escape_of b) (escaped l)) s)
 
 -- The first bytes take no more than all of them.
 escaped_prefix : (s : List ℕ) (i : ℕ) → length (escaped (take i s)) ≤ length (escaped s)
@@ -98,9 +105,6 @@ pub head_kept : (front out : List ℕ) → 0 < length out → over (head_mark �
 head_kept front out h = ap (over (head_mark ∷ front)) (head_first out h) ∙ over_over (head_mark ∷ []) (head_mark ∷ front) out (omega arith)
 
 module _ (s out : List ℕ) (fits : length (wire_form s) ≤ length out) where
-  pub lay_size : (i : ℕ) → length (over (begun s i) out) ≡ length out
-  lay_size i = length_over (begun s i) out (omega (arith, room_tail s i))
-
   -- The next content byte, stored at the next place.
   pub lay_more : (i : ℕ) → i < length s → sets (over (begun s i) out) (length (begun s i)) (escape_of (get_or s i 0)) ≡ over (begun s (i + 1)) out
   lay_more i h =

@@ -33,13 +33,7 @@ fn size_of(content: &[u8]) -> usize
     requires { length content.now ≤ longest_content }
     ensures { result ≡ length (wire_form content.now) }
 {
-    let mut size: usize = 2;
-    let mut i = 0;
-    while i < content.len() {
-        size = size + width(content[i]);
-        i += 1;
-    }
-    size
+    2 + content.iter().map(|&byte| width(byte)).sum::<usize>()
 }
 
 // How many bytes a content byte takes on the wire.
@@ -55,11 +49,9 @@ fn lay(content: &[u8], out: &mut [u8])
     ensures { out.new ≡ over (wire_form content.now) out.old }
 {
     out[0] = HEAD;
-    let mut at: usize = 1;
-    let mut i = 0;
-    while i < content.len() {
-        at = lay_byte(content[i], out, at);
-        i += 1;
+    let mut at = 1;
+    for &byte in content {
+        at = lay_byte(byte, out, at);
     }
     out[at] = TAIL;
 }

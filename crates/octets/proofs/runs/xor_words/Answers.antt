@@ -1,36 +1,19 @@
--- `octets::xor_words`: the sum so far and the words left give the same as all of them.
-use Prim.Native.Nat.{◌+◌, ◌*◌, ◌-◌}
-use mathlib.Core.Path.{refl, sym, ap, ◌∙◌}
-use native.Mathlib.Omega.{arith}
-use lib.Bits.{bit_xor}
-use lib.ListN.{drop}
-use Rattle.octets.specs.Octets.{xor_words_from}
-use Rattle.octets.proofs.OctetsLaws.{words_more, words_end}
+-- `octets::xor_words`: the whole words come one by one.
+use Rattle.std.proofs.Common.{ℕ, ◌≡◌, ◌∙◌, ap, rules, arith, refl}
+use Rattle.std.specs.List.{fold}
+use Rattle.std.specs.Int.Bits.{bit_xor}
+use Rattle.std.specs.Slice.Iter.{chunks_exact_steps, chunks_exact_rest, chunks_exact_size}
+use Rattle.std.proofs.lemmas.List.Sums.{fold_push}
+use Rattle.std.proofs.lemmas.Fn.{fold_over}
+use Rattle.std.proofs.lemmas.Iterator.Splits.{YieldsList-from_shown_while}
+use Rattle.octets.specs.Octets.{number_at}
+use Rattle.octets.proofs.Words.{fours, fours_end, fours_more, words_fold}
 use Rattle.octets.proofs.runs.xor_words.Goals as goal
-
-pub loop-i-init : goal.loop-i-init
-loop-i-init c = (omega arith, refl)
-
-pub overflow_mul-i : goal.overflow_mul-i
-overflow_mul-i c = omega arith
-
-pub overflow_add-i : goal.overflow_add-i
-overflow_add-i c = omega arith
-
-pub loop-i-smaller : goal.loop-i-smaller
-loop-i-smaller c = omega arith
-
-pub loop-i-preserved : goal.loop-i-preserved
-loop-i-preserved c =
-    let l = c.loop-i in
-    let s = c.args.s.now in (
-      omega arith,
-      l.invariant.1
-          ∙ words_more l.sum s l.i (omega arith)
-          ∙ ap (λ x. xor_words_from (bit_xor l.sum x) (drop ((l.i + 1) * 4) s)) (sym c.four_at-sum.ensures),
-    )
 
 pub returns : goal.returns
 returns c =
-    let l = c.loop-i in
-    sym (l.invariant.1 ∙ words_end l.sum c.args.s.now l.i (omega arith))
+    let words = YieldsList-from_shown_while chunks_exact_steps (λ x. x.now) (λ s. fours (chunks_exact_rest s)) (λ s. chunks_exact_size s ≡ 4)
+    (λ s t p k. fours_end _ (omega arith)) (λ s x t p k. (search rules, ap fours k.1.0 ∙ fours_more _ _ (omega arith))) c.chunks_exact.result c.chunks_exact.ensures.size in
+    fold_over (chunks_exact_steps {A = ℕ}) (λ x. x.now) _ (λ ys n. n ≡ fold (λ x w. bit_xor x (number_at 4 w 0)) 0 ys) _ (λ ys a x b f' j k. (search (rules, fold_push), search rules)) c.chunks_exact.result _ _ _ words.runs refl c.fold.ensures.ran
+    ∙ ap (λ l. fold (λ x w. bit_xor x (number_at 4 w 0)) 0 (fours l)) c.chunks_exact.ensures.rest
+    ∙ words_fold 0 c.args.s.now
