@@ -1,5 +1,5 @@
 -- Dropped is said where a frame that was open ends without being handed out, and nowhere else.
-use Rattle.std.specs.Prelude.{ℕ, Bool, cond, not, List, eqb, ltb}
+use Rattle.std.specs.Prelude.{ℕ, Bool, cond, List, eqb, ltb}
 use Rattle.std.proofs.Math.Bool.{true, false}
 use Rattle.std.proofs.Math.Path.{refl}
 use Rattle.octets.proofs.Choice.{either_way}

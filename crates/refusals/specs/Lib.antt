@@ -1,5 +1,3 @@
 -- What the contracts of this crate, and of every call that writes, cite.
 pub mod Refusals
-pub mod Rows
-pub mod RowsLaws
 pub mod Written

@@ -1,7 +1,7 @@
 // The refusals of document 01's table: each by name, its number, and the words that a program prints beside the number.
 #![tactic(auto)]
 
-ghost use Rattle.std.specs.Prelude.{◌≡◌, OkIff};
+ghost use Rattle.std.specs.Prelude.{◌≡◌};
 ghost use Rattle.octets.specs.Octets.{Front};
 ghost use Rattle.refusals.specs.Refusals.{refusal_number, say_of, words_of, Numbered};
 
@@ -136,5 +136,5 @@ fn say(text: &[u8], out: &mut [u8]) -> usize
     ensures within { Front result out.new }
 {
     octets::copy(text, out, 0);
-    octets::least(text.len(), out.len())
+    text.len().min(out.len())
 }

@@ -17,7 +17,6 @@ use Rattle.refusals.specs.Written.{Out, bytes_written, number_in, written}
 use Rattle.ubf_model.specs.Block.{header_size, mark_in, mark, model_in, version_in, name_in, date_in, gap_in, text_fits, texts_fit, filled_in}
 use Rattle.ubf_model.specs.Block.{length_place, address_place, start_place, type_place, model_size, version_size, name_size, date_size}
 use Rattle.ubf_model.specs.Pack.{header_pieces, body_pieces, pieces_of, Fields, filled, block_bytes, bytes_of, texts_in, pairs, fits, unless_out, pack_of}
-use Rattle.ubf_model.specs.Room.{HeaderRoom}
 
 -- ---- the texts
 

@@ -1,5 +1,5 @@
 -- What laying a header asks.
-use Rattle.std.specs.Prelude.{ℕ, ◌-◌, ◌≤◌, true, List, ◌≡◌, length}
+use Rattle.std.specs.Prelude.{ℕ, ◌≤◌, true, List, ◌≡◌, length}
 use Rattle.kinds.specs.Kinds.{longest_image}
 use Rattle.ubf_model.specs.Block.{header_size}
 use Rattle.ubf_model.specs.Pack.{Fields, texts_in}

@@ -1,7 +1,7 @@
 -- Walks that break U2, or take an empty file for a whole one.
 use Rattle.refusals.specs.declared.Refusal.{Refusal}
 use Rattle.ubf_model.specs.declared.block.Block.{Block}
-use Rattle.std.specs.Prelude.{ℕ, zero, suc, ◌+◌, ◌-◌, List, [], ◌∷◌, ◌++◌, ◌≡◌, leb, length, take, Result}
+use Rattle.std.specs.Prelude.{ℕ, zero, suc, ◌+◌, ◌-◌, List, [], ◌∷◌, ◌++◌, ◌≡◌, leb, length, Result}
 use Rattle.std.proofs.Common.{ap, arith}
 use Rattle.octets.specs.Octets.{spelled, little, number_at, part_of, same_bytes, all_zero, text_length, zero_filled, xor_words_from}
 use Rattle.kinds.specs.Kinds.{kind_of, fits_file}

@@ -1,5 +1,5 @@
 -- A frame, its content and its wire form.
-use Rattle.std.specs.Prelude.{ℕ, ◌+◌, ◌-◌, ◌≤◌, ◌<◌, Bool, true, false, cond, List, [], ◌∷◌, ◌++◌, eqb, leb, length, get_or, take, drop}
+use Rattle.std.specs.Prelude.{ℕ, ◌+◌, ◌-◌, ◌≤◌, ◌<◌, Bool, false, cond, List, [], ◌∷◌, ◌++◌, eqb, leb, length, get_or, take, drop}
 use Rattle.octets.specs.Octets.{Bytes, number_at, spelled, xor_of}
 use Rattle.wire.specs.Escape.{head_mark, tail_mark, escaped}
 
