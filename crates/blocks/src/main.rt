@@ -1,97 +1,94 @@
 // Lists the blocks of a UBF file: a line a block; at a faulty one its place, the refusal number and its words.
 #![tactic(auto)]
 
-use console::Got;
-use std::rt::{Env, Files};
+use console::{FileError, Placed, Refused, Text};
+use refusals::Refusal;
+use std::io;
+use std::rt::Files;
 use ubf::{Block, Nth};
 
 fn main(rt: HostRuntime) {
-    let mut path = console::path_room();
-    match rt.arg(1, &mut path) {
-        Ok(length) if console::argument_count(&rt) == 2 => {
-            list_file(&rt, &rt.stderr(), octets::part(&path, 0, length));
+    let err = rt.stderr();
+    match console::arguments(&rt) {
+        // Where standard output fails, nothing is left to say so on.
+        Ok(words) => {
+            let _ = blocks(&rt, &err, &words);
         }
-        _ => console::say(&rt, b"usage: blocks FILE\n"),
+        Err(error) => console::fail(&err, b"blocks", &error),
+    }
+}
+
+fn blocks(
+    rt: &(impl Files + Print + AllocGlobal),
+    err: &impl Print,
+    words: &[Vec<u8>],
+) -> io::Result<()> {
+    match words {
+        [_, path] if path.len() <= console::PATH => list_file(rt, err, path),
+        _ => rt.println("usage: blocks FILE"),
     }
 }
 
 // Reads the whole file, if it is not too large, and lists it.
-fn list_file(rt: &(impl Files + Print), err: &impl Print, path: &[u8]) {
-    let mut file = console::file_room();
-    match console::read_whole(rt, err, path, &mut file) {
-        Got::Count(n) => list(rt, octets::part(&file, 0, n)),
-        Got::Failed => (),
-        Got::Larger => {
-            console::text(rt, path);
-            console::say(
-                rt,
-                b": larger than 524,288 bytes, the largest file that is taken\n",
-            );
+fn list_file(
+    rt: &(impl Files + Print + AllocGlobal),
+    err: &impl Print,
+    path: &[u8],
+) -> io::Result<()> {
+    match console::read_file(rt, path, console::FILE) {
+        Ok(file) => list(rt, &file),
+        Err(FileError::Larger) => {
+            let name = Text(path);
+            println!(rt; "{name}: larger than 524,288 bytes, the largest file that is taken")
+        }
+        Err(why) => {
+            console::fail(err, path, &why);
+            Ok(())
         }
     }
 }
 
-// A proved loop has to end: no file has more blocks than bytes.
-fn list(rt: &impl Print, file: &[u8]) {
-    let mut n = 0;
-    while n <= file.len() && list_block(rt, file, n) {
-        n += 1;
-    }
-}
-
-// The n-th block's line, or how the walk ends. Answers whether there may be more.
-fn list_block(rt: &impl Print, file: &[u8], n: usize) -> bool {
-    match ubf::block_at(file, n) {
-        Nth::Found { block, place } => {
-            show_block(rt, n, block, octets::behind(file, place));
-            true
-        }
-        Nth::Past { count } => {
-            console::number(rt, count);
-            console::say(rt, b" good, the file is whole\n");
-            false
-        }
-        Nth::Refused {
-            number,
-            place,
-            count,
-        } => {
-            show_fault(rt, number, place, count);
-            false
+// A line a block, and how the walk ends. No file has more blocks than bytes.
+fn list(rt: &impl Print, file: &[u8]) -> io::Result<()> {
+    for n in 0..=file.len() {
+        match ubf::block_at(file, n) {
+            Nth::Found { block, place } => show_block(rt, n, block, octets::behind(file, place))?,
+            Nth::Past { count } => return println!(rt; "{count} good, the file is whole"),
+            Nth::Refused {
+                refusal,
+                place,
+                count,
+            } => return show_fault(rt, refusal, place, count),
         }
     }
+    Ok(())
 }
 
-fn show_block(rt: &impl Print, n: usize, block: Block, bytes: &[u8]) {
-    show_place(rt, n);
-    let kind = block.kind;
-    console::placed(rt, kind, block.extent, block.start);
-    console::say(rt, b", model ");
-    console::text(rt, ubf::model(bytes));
-    console::say(rt, b", version ");
-    console::text(rt, ubf::version(bytes));
-    console::say(rt, b", file ");
-    console::text(rt, ubf::file_name(bytes));
-    console::say(rt, b", date ");
-    console::text(rt, ubf::date(bytes));
-    console::say(rt, b", check ");
-    console::word(rt, block.check);
-    console::say(rt, b"\n");
+fn show_block(rt: &impl Print, n: usize, block: Block, bytes: &[u8]) -> io::Result<()> {
+    let ordinal = ordinal(n);
+    let placed = Placed {
+        image: block.kind,
+        extent: block.extent,
+        start: block.start,
+    };
+    let model = Text(ubf::model(bytes));
+    let version = Text(ubf::version(bytes));
+    let name = Text(ubf::file_name(bytes));
+    let date = Text(ubf::date(bytes));
+    let check = block.check;
+    println!(rt;
+        "block {ordinal}: {placed}, model {model}, version {version}, file {name}, date {date}, check 0x{check:08X}"
+    )
 }
 
 // People count from 1.
-fn show_place(rt: &impl Print, n: usize) {
-    console::say(rt, b"block ");
-    console::number(rt, std::num::wrapping_add_usize(n, 1));
-    console::say(rt, b": ");
+fn ordinal(n: usize) -> usize {
+    n.wrapping_add(1)
 }
 
-fn show_fault(rt: &impl Print, number: u8, place: usize, count: usize) {
-    show_place(rt, count);
-    console::refusal(rt, number);
-    console::say(rt, b", at byte ");
-    console::number(rt, place);
-    console::say(rt, b" of the file\n");
-    console::number(rt, count);
-    console::say(rt, b" good before it\n");
+fn show_fault(rt: &impl Print, refusal: Refusal, place: usize, count: usize) -> io::Result<()> {
+    let ordinal = ordinal(count);
+    let refused = Refused(refusal);
+    println!(rt; "block {ordinal}: {refused}, at byte {place} of the file")?;
+    println!(rt; "{count} good before it")
 }

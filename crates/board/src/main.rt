@@ -2,103 +2,75 @@
 #![tactic(auto)]
 
 mod keep;
+mod reply;
 mod say;
 mod station;
 
-use crate::station::Port;
-use cable::{Cable, Opened};
-use console::{Got, voice};
-use std::rt::{Env, Files};
+use crate::station::Station;
+use cable::Cable;
+use console::FileError;
+use std::rt::Files;
+
+// What the arguments ask for.
+#[derive(Clone, Copy)]
+struct Wish<'a> {
+    flash: &'a [u8],
+    line: &'a [u8],
+    opened: bool,
+}
 
 fn main(rt: HostRuntime) {
     let err = rt.stderr();
-    let count = console::argument_count(&rt);
-    let mut path = console::path_room();
-    match rt.arg(1, &mut path) {
-        Ok(length) if is_use(&rt, count) => {
-            serve_path(&rt, &err, octets::part(&path, 0, length), count);
+    match console::arguments(&rt) {
+        Ok(words) => match wish_of(&words) {
+            Some(wish) => serve(&rt, &err, wish),
+            None => say::usage(&err),
+        },
+        Err(error) => console::fail(&err, b"board", &error),
+    }
+}
+
+// One to three arguments, the third of them the word open. Without a second the line is standard input and output.
+fn wish_of(words: &[Vec<u8>]) -> Option<Wish<'_>> {
+    let (flash, line, opened) = match words {
+        [_, flash] => (flash.as_slice(), b"-".as_slice(), false),
+        [_, flash, line] => (flash.as_slice(), line.as_slice(), false),
+        [_, flash, line, word] if word.as_slice() == b"open".as_slice() => {
+            (flash.as_slice(), line.as_slice(), true)
         }
-        _ => usage(&err),
+        _ => return None,
+    };
+    (flash.len() <= console::PATH).then_some(Wish {
+        flash,
+        line: console::openable(line),
+        opened,
+    })
+}
+
+fn serve<R: Files + Input + Print + AllocGlobal>(rt: &R, err: &impl Print, wish: Wish<'_>) {
+    match cable::open(rt, wish.line) {
+        Ok(cable) => serve_file(rt, err, wish, cable),
+        Err(why) => console::fail(err, wish.line, &why),
     }
-}
-
-// One to three arguments, the third of them the word open.
-fn is_use(rt: &impl Env, count: usize) -> bool {
-    if count < 2 || count > 4 {
-        return false;
-    }
-    count < 4 || is_open_wished(rt)
-}
-
-fn serve_path<R: Env + Files + Input + Print>(rt: &R, err: &impl Print, path: &[u8], count: usize) {
-    match open_line(rt, err, count) {
-        Opened::Line(cable) => serve_file(rt, err, path, cable, count == 4),
-        Opened::Failed => (),
-    }
-}
-
-fn usage(err: &impl Print) {
-    voice::say(err, b"usage: board FLASH [LINE] [open]\n");
-    voice::say(
-        err,
-        b"FLASH is a file of 1 to 262,144 bytes; LINE is a terminal, or - for standard input and output\n",
-    );
-}
-
-// The third argument is the word open or nothing.
-fn is_open_wished(rt: &impl Env) -> bool {
-    let mut word = [0u8; 8];
-    let n = rt.arg(3, &mut word).unwrap_or(0);
-    octets::same(octets::part(&word, 0, n), b"open")
-}
-
-// Without a second argument the line is standard input and output.
-fn open_line<R: Env + Files>(rt: &R, err: &impl Print, count: usize) -> Opened<R::File> {
-    if count < 3 {
-        return cable::open(rt, err, b"-");
-    }
-    let mut path = console::path_room();
-    let length = rt.arg(2, &mut path).unwrap_or(0);
-    cable::open(rt, err, octets::part(&path, 0, length))
 }
 
 // Reads the flash, and keeps its file open to be written.
-fn serve_file<R: Files + Input + Print>(
+fn serve_file<R: Files + Input + Print + AllocGlobal>(
     rt: &R,
     err: &impl Print,
-    path: &[u8],
+    wish: Wish<'_>,
     cable: Cable<R::File>,
-    opened: bool,
 ) {
-    let mut flash = console::flash_room();
-    match console::read_whole(rt, err, path, &mut flash) {
-        Got::Count(n) => serve_flash(rt, err, path, cable, opened, n, &mut flash),
-        Got::Failed => (),
-        Got::Larger => voice::say(err, b"board: the flash file is larger than 262,144 bytes\n"),
-    }
-}
-
-fn serve_flash<R: Files + Input + Print>(
-    rt: &R,
-    err: &impl Print,
-    path: &[u8],
-    cable: Cable<R::File>,
-    opened: bool,
-    n: usize,
-    flash: &mut [u8],
-) {
-    if n == 0 {
-        voice::say(err, b"board: the flash file is empty\n");
-        return;
-    }
-    if flash.len() < n {
-        return;
-    }
-    match console::open_update(rt, err, path) {
-        None => (),
-        Some(file) => {
-            let mut port = Port { cable, file };
-            station::serve(rt, err, &mut port, opened, &mut flash[..n]);
-        }
+    match console::read_file(rt, wish.flash, console::FLASH) {
+        Ok(flash) if flash.is_empty() => say::empty(err),
+        Ok(flash) => match console::open_update(rt, wish.flash) {
+            Ok(file) => {
+                let mut station = Station::new(rt, err, cable, file, flash, wish.opened);
+                station.serve();
+            }
+            Err(why) => console::fail(err, wish.flash, &why),
+        },
+        Err(FileError::Larger) => say::too_large(err),
+        Err(why) => console::fail(err, wish.flash, &why),
     }
 }

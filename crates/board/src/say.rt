@@ -1,21 +1,33 @@
-// What the board says to a person, on standard error: the line may be standard output.
-use crate::station::Log;
-use console::voice;
-use kinds::Kind;
-use posts::View;
-use reader::{Heard, Reader};
+// What the board says to a person, on standard error: the line may be standard output. What can't be said is let be.
+use crate::keep::Unkept;
+use crate::reply::Refusing;
+use crate::station::{Log, Stop};
+use console::{Refused, SystemWords};
+use posts::{Stand, View};
+use refusals::Refusal;
 
-fn say(err: &impl Print, words: &[u8]) {
-    voice::say(err, words);
+pub fn usage(err: &impl Print) {
+    let _ = err.println("usage: board FLASH [LINE] [open]");
+    let _ = err.println(
+        "FLASH is a file of 1 to 262,144 bytes; LINE is a terminal, or - for standard input and output",
+    );
+}
+
+pub fn empty(err: &impl Print) {
+    let _ = err.println("board: the flash file is empty");
+}
+
+pub fn too_large(err: &impl Print) {
+    let _ = err.println("board: the flash file is larger than 262,144 bytes");
 }
 
 pub fn beginning(err: &impl Print, opened: bool, extent: usize) {
-    voice::tell(err, b"board: flash of \0 bytes, ", &[extent]);
-    if opened {
-        say(err, b"session open\n");
+    let stand = if opened {
+        "session open"
     } else {
-        say(err, b"waiting for the start text\n");
-    }
+        "waiting for the start text"
+    };
+    let _ = println!(err; "board: flash of {extent} bytes, {stand}");
 }
 
 // What has changed between two looks at the post. A closed session says whether silence closed it.
@@ -23,99 +35,70 @@ pub fn change(err: &impl Print, before: View, after: View, idle: bool) {
     if before.stand == after.stand {
         return;
     }
-    let stand = after.stand;
-    let kind = after.kind;
-    match stand {
-        0 => closed(err, idle),
-        1 => say(err, b"board: session open\n"),
-        2 => parameters(err, kind, after.extent),
-        4 => say(err, b"board: done, all packets are in the flash\n"),
-        _ => (),
+    match after.stand {
+        Stand::Closed => closed(err, idle),
+        Stand::Ready => {
+            let _ = err.println("board: session open");
+        }
+        Stand::Begun => {
+            if let Some(kind) = after.kind {
+                let extent = after.extent;
+                let _ = println!(err; "board: parameters accepted: {kind}, length {extent}");
+            }
+        }
+        Stand::Loading => (),
+        Stand::Done => {
+            let _ = err.println("board: done, all packets are in the flash");
+        }
     }
 }
 
 fn closed(err: &impl Print, idle: bool) {
-    if idle {
-        say(
-            err,
-            b"board: closed after 7,000 ms of silence, waiting for the start text\n",
-        );
+    let why = if idle {
+        "after 7,000 ms of silence"
     } else {
-        say(
-            err,
-            b"board: closed by a restart, waiting for the start text\n",
-        );
-    }
+        "by a restart"
+    };
+    let _ = println!(err; "board: closed {why}, waiting for the start text");
 }
 
 pub fn dropped(err: &impl Print) {
-    say(err, b"board: a frame was dropped\n");
+    let _ = err.println("board: a frame was dropped");
 }
 
-pub fn unwritten(err: &impl Print) {
-    say(
-        err,
-        b"board: the flash file could not be written; nothing was answered\n",
-    );
+pub fn refusal(err: &impl Print, refusal: Refusal) {
+    let refused = Refused(refusal);
+    let _ = println!(err; "board: {refused}");
 }
 
-pub fn refusal(err: &impl Print, number: u8) {
-    say(err, b"board: ");
-    voice::refusal(err, number);
-    say(err, b"\n");
+pub fn refusing(err: &impl Print, said: Refusing) {
+    let command = said.command;
+    let ack = said.ack;
+    let _ = println!(err; "board: command {command:02X} refused with ACK {ack:02X}");
 }
 
-fn parameters(err: &impl Print, kind: Kind, extent: usize) {
-    say(err, b"board: parameters accepted: ");
-    voice::kind(err, kind);
-    voice::tell(err, b", length \0\n", &[extent]);
-}
-
-// Reads a reply back, and says where it refuses something; answers whether it does. A text is no frame and refuses nothing.
-pub fn reply(err: &impl Print, bytes: &[u8]) -> bool {
-    let mut reader = Reader::new();
-    let mut i = 0;
-    while i < bytes.len() {
-        let stepped = reader.step(bytes[i]);
-        let heard = stepped.heard;
-        reader = stepped.reader;
-        if refuses(err, heard, reader) {
-            return true;
+// Why the board stops; at the end of the input there is nothing to say.
+pub fn stop(err: &impl Print, why: &Stop) {
+    match why {
+        Stop::End => (),
+        Stop::Line(error) => console::fail(err, b"the line", &SystemWords(error)),
+        Stop::Flash(Unkept::System(error)) => {
+            console::fail(err, b"the flash file", &SystemWords(error));
+            unwritten(err);
         }
-        i += 1;
-    }
-    false
-}
-
-// A frame whose last payload byte, ACK or State, is not 0.
-fn refuses(err: &impl Print, heard: Heard, reader: Reader) -> bool {
-    match heard {
-        Heard::Nothing => false,
-        Heard::Dropped => false,
-        Heard::Frame { command, count } => {
-            let store = reader.store;
-            let payload = reader::payload(&store, count);
-            let ack = octets::byte_at(payload, std::num::wrapping_sub_usize(count, 1));
-            if ack != 0 {
-                refused(err, command, ack);
-            }
-            ack != 0
-        }
+        Stop::Flash(Unkept::Partly) => unwritten(err),
     }
 }
 
-fn refused(err: &impl Print, command: u8, ack: u8) {
-    say(err, b"board: command ");
-    voice::byte(err, command);
-    say(err, b" refused with ACK ");
-    voice::byte(err, ack);
-    say(err, b"\n");
+fn unwritten(err: &impl Print) {
+    let _ = err.println("board: the flash file could not be written; nothing was answered");
 }
 
 pub fn summary(err: &impl Print, log: Log, dropped: usize) {
-    voice::tell(
-        err,
-        b"board: the line has ended: \0 packets written, \0 replies, \0 of them refusals, \0 frames dropped\n",
-        &[log.packets, log.replies, log.refused, dropped],
+    let packets = log.packets;
+    let replies = log.replies;
+    let refused = log.refused;
+    let _ = println!(err;
+        "board: the line has ended: {packets} packets written, {replies} replies, {refused} of them refusals, {dropped} frames dropped"
     );
 }

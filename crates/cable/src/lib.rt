@@ -2,98 +2,79 @@
 // or writes; these say what the answers may be, and what the calls do is tested.
 #![tactic(auto)]
 
-ghost use Rattle.std.specs.Prelude.{length, ◌≤◌, IfOk};
-ghost use Rattle.cable.specs.Cable.{Opens, Comes};
+ghost use Rattle.std.specs.Prelude.{length, ◌≡◌, ◌≤◌, IfOk};
+ghost use Rattle.cable.specs.Cable.{Opens, Comes, is_terminal_of};
 
-use console::voice;
+use console::FileError;
 use std::io;
 use std::io::{Read, Write};
 use std::rt::Files;
 
-// Where bytes come from and go to, and whether an empty read is silence: on a terminal it is 100 ms, elsewhere the end. Without a file
-// the bytes are those of standard input and output.
+// Where bytes come from and go to: standard input and output, or the file of a terminal.
 #[derive(Drop)]
-pub struct Cable<F> {
-    pub file: Option<F>,
-    pub terminal: bool,
+pub enum Cable<F> {
+    Standard,
+    Terminal(F),
 }
 
-#[derive(Drop)]
-pub enum Opened<F> {
-    Line(Cable<F>),
-    Failed,
+impl<F> Cable<F> {
+    // Whether an empty read is silence: on a terminal it is 100 ms, elsewhere the end.
+    pub fn is_terminal(&self) -> bool
+        ensures { result ≡ is_terminal_of self.now }
+    {
+        matches!(self, Cable::Terminal(_))
+    }
 }
 
-// What a read brought: so many bytes at the front of the buffer, 100 ms without a byte, the end of the input, or an error.
-#[derive(Clone, Copy)]
+// What a read brought: so many bytes at the front of the buffer, 100 ms without a byte, or the end of the input.
+#[derive(Clone, Copy, Debug, PartialEq, Eq)]
 pub enum Came {
     Bytes(usize),
     Silence,
     End,
-    Failed,
 }
 
 pub const SILENCE: u32 = 100;
 
-// Opens a terminal by its path; a dash is standard input and output. Where it fails standard error says why.
-pub fn open<R: Files>(rt: &R, err: &impl Print, path: &[u8]) -> Opened<R::File>
+// Opens a terminal by its path; a dash is standard input and output.
+pub fn open<R: Files>(rt: &R, path: &[u8]) -> Result<Cable<R::File>, FileError>
     ensures { Opens result path.now }
 {
     if octets::same(path, b"-") {
-        return Opened::Line(Cable {
-            file: None,
-            terminal: false,
-        });
+        return Ok(Cable::Standard);
     }
-    match console::open_update(rt, err, path) {
-        None => Opened::Failed,
-        Some(file) => Opened::Line(Cable {
-            file: Some(file),
-            terminal: true,
-        }),
-    }
+    Ok(Cable::Terminal(console::open_update(rt, path)?))
 }
 
 // Sends all bytes, or answers why not.
 pub fn send<F: Write>(rt: &impl Print, cable: &mut Cable<F>, bytes: &[u8]) -> io::Result<()> {
-    match &mut cable.file {
-        Some(file) => file.write_all(bytes),
-        None => rt.write_all(bytes),
+    match cable {
+        Cable::Terminal(file) => file.write_all(bytes),
+        Cable::Standard => rt.write_all(bytes),
     }
 }
 
 // Reads once.
-pub fn listen<F: Read>(
-    rt: &impl Input,
-    err: &impl Print,
-    cable: &mut Cable<F>,
-    buffer: &mut [u8],
-) -> Came
-    ensures { Comes result cable.old.terminal (length buffer.old) }
+pub fn listen<F: Read>(rt: &impl Input, cable: &mut Cable<F>, buffer: &mut [u8]) -> io::Result<Came>
+    ensures { Comes result (is_terminal_of cable.old) (length buffer.old) }
 {
-    match read_once(rt, &mut cable.file, buffer) {
-        Err(error) => {
-            voice::fail(err, b"the line", &error);
-            Came::Failed
-        }
-        Ok(n) => {
-            if n > 0 {
-                return Came::Bytes(n);
-            }
-            if cable.terminal {
-                Came::Silence
-            } else {
-                Came::End
-            }
-        }
+    let is_terminal = cable.is_terminal();
+    let n = read_once(rt, cable, buffer)?;
+    if n > 0 {
+        return Ok(Came::Bytes(n));
     }
+    Ok(if is_terminal {
+        Came::Silence
+    } else {
+        Came::End
+    })
 }
 
-fn read_once<F: Read>(rt: &impl Input, file: &mut Option<F>, buffer: &mut [u8]) -> io::Result<usize>
+fn read_once<F: Read>(rt: &impl Input, cable: &mut Cable<F>, buffer: &mut [u8]) -> io::Result<usize>
     ensures { IfOk result (λ n. n ≤ length buffer.old) }
 {
-    match file {
-        Some(file) => file.read(buffer),
-        None => rt.reader().read(buffer),
+    match cable {
+        Cable::Terminal(file) => file.read(buffer),
+        Cable::Standard => rt.reader().read(buffer),
     }
 }

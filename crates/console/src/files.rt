@@ -1,151 +1,170 @@
-// Whole files: read into a lent buffer, or written so that the name never stands for half of one.
-use crate::voice;
+// Whole files: read to their end, or written so that the name never stands for half of one. Names are bytes as the system gives them:
+// one that is no text is shown as it is.
+use crate::show::fail;
+use std::alloc::AllocError;
+use std::error::Error;
 use std::fs::{File, OpenFile, OpenOptions};
-use std::io::{Read, Write};
+use std::io::{Cursor, Read, Write};
 use std::rt::Files;
-use std::{fs, io};
+use std::str::Utf8Error;
+use std::{fmt, fs, io, str};
 
-#[derive(Clone, Copy)]
-pub enum Got {
-    // So many bytes stand at the front of the buffer.
-    Count(usize),
-    // The file could not be opened or read; standard error says why.
-    Failed,
-    // The file has more bytes than the buffer.
+// The most bytes of a name.
+pub const PATH: usize = 4096;
+// A name that leaves no room for the part's is not written to.
+const WRITTEN_PATH: usize = 4090;
+// The most bytes of a file that is taken.
+pub const FILE: usize = 524288;
+// The most bytes of a flash, and so of any image.
+pub const FLASH: usize = 262144;
+
+// What is longer than any path opens nothing, as no name does.
+pub fn openable(path: &[u8]) -> &[u8] {
+    if path.len() <= PATH { path } else { b"" }
+}
+
+// Why a file was not read or written.
+#[derive(Debug, Drop)]
+pub enum FileError {
+    LongName,
+    NoText,
+    // It has more bytes than are taken; who asked knows how many these are.
     Larger,
+    System(io::Error),
 }
 
-// Room for the largest file that is taken. Large arrays come from calls of their own: beside other code the checker pays for each byte.
-pub fn file_room() -> [u8; 524288] {
-    [0u8; 524288]
-}
-
-// Room for the largest flash, and so for any image.
-pub fn flash_room() -> [u8; 262144] {
-    [0u8; 262144]
-}
-
-// Room for any path.
-pub fn path_room() -> [u8; 4096] {
-    [0u8; 4096]
-}
-
-// Err is where standard error goes.
-pub fn read_whole(rt: &impl Files, err: &impl Print, path: &[u8], buffer: &mut [u8]) -> Got {
-    match read_path(rt, err, path, buffer) {
-        Ok(got) => got,
-        Err(error) => {
-            voice::fail(err, path, &error);
-            Got::Failed
+impl fmt::Display for FileError {
+    fn fmt<W: fmt::Write>(&self, f: &mut fmt::Formatter<W>) -> fmt::Result {
+        match self {
+            FileError::LongName => f.write_str("the name is too long"),
+            FileError::NoText => f.write_str("the name is no UTF-8 text"),
+            FileError::Larger => f.write_str("the file is larger than any that is taken"),
+            FileError::System(error) => write!(f, "{}", SystemWords(error)),
         }
     }
 }
 
-fn read_path(rt: &impl Files, err: &impl Print, path: &[u8], buffer: &mut [u8]) -> io::Result<Got> {
-    match path_text(err, path) {
-        None => Ok(Got::Failed),
-        Some(name) => {
-            let mut file = File::open(rt, name)?;
-            read_open(&mut file, buffer)
+impl Error for FileError {}
+
+impl From<io::Error> for FileError {
+    fn from(error: io::Error) -> FileError {
+        FileError::System(error)
+    }
+}
+
+impl From<AllocError> for FileError {
+    fn from(error: AllocError) -> FileError {
+        FileError::System(io::Error::from(error))
+    }
+}
+
+// Files go by names of text.
+impl From<Utf8Error> for FileError {
+    fn from(_error: Utf8Error) -> FileError {
+        FileError::NoText
+    }
+}
+
+// Why the system failed, in its words, which end where std puts the error's number behind them.
+#[derive(Clone, Copy)]
+pub struct SystemWords<'a>(pub &'a io::Error);
+
+impl fmt::Display for SystemWords<'_> {
+    fn fmt<W: fmt::Write>(&self, f: &mut fmt::Formatter<W>) -> fmt::Result {
+        let mut room = Cursor::new([0u8; 128]);
+        // What the room has no place for is left out.
+        let _ = write!(room, "{}", self.0);
+        let text = str::from_utf8(room.get_ref()).unwrap_or("");
+        match text.split_once(" (os error ") {
+            Some((words, _)) => f.write_str(words),
+            None => f.write_str(text.trim_end_matches('\0')),
         }
     }
 }
 
-fn read_open(file: &mut impl Read, buffer: &mut [u8]) -> io::Result<Got> {
-    let n = read_full(file, buffer)?;
-    let mut more = [0u8; 1];
-    if file.read(&mut more)? > 0 {
-        return Ok(Got::Larger);
+// Reads a file of at most so many bytes.
+pub fn read_file<R: Files + AllocGlobal>(
+    rt: &R,
+    path: &[u8],
+    most: usize,
+) -> Result<Vec<u8>, FileError> {
+    let file = File::open(rt, str::from_utf8(path)?)?;
+    let mut bytes = Vec::new(rt.alloc());
+    file.take((most as u64).saturating_add(1))
+        .read_to_end(&mut bytes)?;
+    if bytes.len() > most {
+        return Err(FileError::Larger);
     }
-    Ok(Got::Count(n))
+    Ok(bytes)
 }
 
-// Reads until the buffer is full or the file ends, and answers how many bytes it put at the front.
-fn read_full(file: &mut impl Read, buffer: &mut [u8]) -> io::Result<usize> {
-    let mut done = 0;
-    while done < buffer.len() {
-        let n = file.read(&mut buffer[done..])?;
-        if n == 0 {
-            break;
-        }
-        done += n;
-    }
-    Ok(done)
+// Opens a file to be read and written, its bytes as they are.
+pub fn open_update<R: Files>(rt: &R, path: &[u8]) -> Result<R::File, FileError> {
+    let name = str::from_utf8(path)?;
+    Ok(OpenOptions::new().read(true).write(true).open(rt, name)?)
 }
 
-// Opens a file to be read and written, its bytes as they are. Where it can't be opened standard error says why.
-pub fn open_update<R: Files>(rt: &R, err: &impl Print, path: &[u8]) -> Option<R::File> {
-    let name = path_text(err, path)?;
-    match OpenOptions::new().read(true).write(true).open(rt, name) {
-        Ok(file) => Some(file),
-        Err(error) => {
-            voice::fail(err, path, &error);
-            None
-        }
-    }
+// Why a file was not written, by the name that says so: its own, or that of the part beside it.
+#[derive(Debug, Drop)]
+pub enum Unwritten {
+    Whole(FileError),
+    Part(FileError),
 }
 
-// Files go by names of text. Where a path is none, standard error says so.
-fn path_text<'a>(err: &impl Print, path: &'a [u8]) -> Option<&'a str> {
-    match std::str::from_utf8(path) {
-        Ok(name) => Some(name),
-        Err(_) => {
-            voice::say(err, path);
-            voice::say(err, b": the name is no UTF-8 text\n");
-            None
+impl Unwritten {
+    // Says so on standard error.
+    pub fn tell(&self, err: &impl Print, path: &[u8]) {
+        match self {
+            Unwritten::Whole(why) => fail(err, path, why),
+            Unwritten::Part(why) => {
+                let _ = err.write_all(path);
+                fail(err, b".part", why);
+            }
         }
     }
 }
 
-// Writes under a name of its own beside the path, and takes the path's name only once all is written and kept. Answers whether it
-// did; if not, standard error says why, and the path is as it was.
-pub fn write_whole(rt: &impl Files, err: &impl Print, path: &[u8], bytes: &[u8]) -> bool {
-    let mut name = [0u8; 4096];
-    octets::copy(path, &mut name, 0);
-    octets::copy(b".part", &mut name, path.len());
-    let length = path.len();
-    if length > 4090 {
-        console_fail(err, path);
-        return false;
+// Writes under a name of its own beside the path, and takes the path's name only once all is written and kept. On an error the path is
+// as it was.
+pub fn write_file(
+    rt: &(impl Files + AllocGlobal),
+    path: &[u8],
+    bytes: &[u8],
+) -> Result<(), Unwritten> {
+    if path.len() > WRITTEN_PATH {
+        return Err(Unwritten::Whole(FileError::LongName));
     }
-    let part = octets::part(&name, 0, length + 5);
-    match (path_text(err, part), std::str::from_utf8(path)) {
-        (Some(part), Ok(path)) => write_as(rt, err, part, path, bytes),
-        _ => false,
-    }
-}
-
-fn console_fail(err: &impl Print, path: &[u8]) {
-    voice::say(err, path);
-    voice::say(err, b": the name is too long\n");
-}
-
-fn write_as(rt: &impl Files, err: &impl Print, part: &str, path: &str, bytes: &[u8]) -> bool {
-    let opened = File::create(rt, part);
-    let mut file = match opened {
-        Ok(file) => file,
-        Err(error) => {
-            voice::fail(err, part.as_bytes(), &error);
-            return false;
-        }
+    let Ok(name) = str::from_utf8(path) else {
+        return Err(Unwritten::Part(FileError::NoText));
     };
-    let kept = keep(&mut file, bytes);
-    drop(file);
-    if let Err(error) = kept {
-        voice::fail(err, part.as_bytes(), &error);
-        let _ = fs::remove_file(rt, part);
-        return false;
+    match format!(in rt.alloc(); "{name}.part") {
+        Ok(part) => write_as(rt, &part, name, bytes),
+        Err(error) => Err(Unwritten::Part(FileError::from(error))),
     }
-    if let Err(error) = fs::rename(rt, part, path) {
-        voice::fail(err, path.as_bytes(), &error);
+}
+
+fn write_as(rt: &impl Files, part: &str, name: &str, bytes: &[u8]) -> Result<(), Unwritten> {
+    let file = File::create(rt, part).map_err(part_failed)?;
+    let written = match keep(file, bytes) {
+        Ok(()) => fs::rename(rt, part, name).map_err(whole_failed),
+        Err(error) => Err(part_failed(error)),
+    };
+    if written.is_err() {
         let _ = fs::remove_file(rt, part);
-        return false;
     }
-    true
+    written
+}
+
+fn part_failed(error: io::Error) -> Unwritten {
+    Unwritten::Part(FileError::System(error))
+}
+
+fn whole_failed(error: io::Error) -> Unwritten {
+    Unwritten::Whole(FileError::System(error))
 }
 
 // All bytes, and then until they are kept.
-fn keep<F: Write + OpenFile>(file: &mut F, bytes: &[u8]) -> io::Result<()> {
+fn keep<F: Write + OpenFile + Drop>(mut file: F, bytes: &[u8]) -> io::Result<()> {
     file.write_all(bytes)?;
     file.sync_all()
 }

@@ -3,11 +3,13 @@
 // standard output, or its standard error. A write that fails is let be, since nothing is left to say so on.
 #![tactic(auto)]
 
-mod arguments;
 mod files;
 mod show;
-pub mod voice;
+mod startup;
 
-pub use arguments::{argument_count, argument_number};
-pub use files::{Got, file_room, flash_room, open_update, path_room, read_whole, write_whole};
-pub use show::{number, placed, refusal, row, say, text, word};
+pub use files::{
+    FILE, FLASH, FileError, PATH, SystemWords, Unwritten, open_update, openable, read_file,
+    write_file,
+};
+pub use show::{Placed, Refused, Row, Text, fail};
+pub use startup::{arguments, number_of};

@@ -1,75 +1,83 @@
-// Texts and numbers on standard output.
-use crate::voice;
+// What programs print: each is a Display, so that it stands in a format among words and numbers.
 use kinds::Kind;
+use refusals::Refusal;
+use std::fmt;
 
-// Bytes as they are.
-pub fn say(rt: &impl Print, bytes: &[u8]) {
-    voice::say(rt, bytes);
+// A line that says what failed, and why.
+pub fn fail(to: &impl Print, what: &[u8], why: &(impl fmt::Display + Drop)) {
+    let _ = to.write_all(what);
+    let _ = println!(to; ": {why}");
 }
 
-pub fn number(rt: &impl Print, n: usize) {
-    voice::number(rt, n);
-}
+// A refusal's number and its words.
+#[derive(Clone, Copy)]
+pub struct Refused(pub Refusal);
 
-// A refusal number and its words.
-pub fn refusal(rt: &impl Print, number: u8) {
-    voice::refusal(rt, number);
+impl fmt::Display for Refused {
+    fn fmt<W: fmt::Write>(&self, f: &mut fmt::Formatter<W>) -> fmt::Result {
+        write!(f, "refused {}, {}", self.0.number(), self.0)
+    }
 }
 
 // Where an image goes and where it stands in its block.
-pub fn placed(rt: &impl Print, image: Kind, extent: u32, start: u32) {
-    voice::kind(rt, image);
-    say(rt, b", address ");
-    word(rt, kinds::base_of(image));
-    say(rt, b", length ");
-    number(rt, extent as usize);
-    say(rt, b", start ");
-    number(rt, start as usize);
+#[derive(Clone, Copy)]
+pub struct Placed {
+    pub image: Kind,
+    pub extent: u32,
+    pub start: u32,
 }
 
-// A number of four bytes in hex, high byte first, as people write it.
-pub fn word(rt: &impl Print, x: u32) {
-    voice::word(rt, x);
+impl fmt::Display for Placed {
+    fn fmt<W: fmt::Write>(&self, f: &mut fmt::Formatter<W>) -> fmt::Result {
+        let kind = self.image;
+        let base = kinds::base_of(self.image);
+        let extent = self.extent;
+        let start = self.start;
+        write!(
+            f,
+            "{kind}, address 0x{base:08X}, length {extent}, start {start}"
+        )
+    }
 }
 
 // Bytes in hex with a space before each, filled up with spaces to so many places.
-pub fn row(rt: &impl Print, bytes: &[u8], places: usize) {
-    let n = larger(bytes.len(), places);
-    let mut i = 0;
-    while i < n {
-        place(rt, octets::part(bytes, i, 1));
-        i += 1;
+#[derive(Clone, Copy)]
+pub struct Row<'a> {
+    pub bytes: &'a [u8],
+    pub places: usize,
+}
+
+impl fmt::Display for Row<'_> {
+    fn fmt<W: fmt::Write>(&self, f: &mut fmt::Formatter<W>) -> fmt::Result {
+        for byte in self.bytes {
+            write!(f, " {byte:02X}")?;
+        }
+        for _ in self.bytes.len()..self.places {
+            f.write_str("   ")?;
+        }
+        Ok(())
     }
-}
-
-fn larger(a: usize, b: usize) -> usize {
-    if a < b { b } else { a }
-}
-
-// One place of a row: a byte, or none.
-fn place(rt: &impl Print, byte: &[u8]) {
-    let mut digits = [b' '; 2];
-    hex_digits::show(byte, &mut digits);
-    say(rt, b" ");
-    say(rt, &digits);
 }
 
 // A text up to its first zero. A byte that no screen should get is shown as a dot.
-pub fn text(rt: &impl Print, field: &[u8]) {
-    let mut i = 0;
-    while i < field.len() {
-        let byte = field[i];
-        if byte == 0 {
-            return;
+#[derive(Clone, Copy)]
+pub struct Text<'a>(pub &'a [u8]);
+
+impl fmt::Display for Text<'_> {
+    fn fmt<W: fmt::Write>(&self, f: &mut fmt::Formatter<W>) -> fmt::Result {
+        for &byte in self.0 {
+            if byte == 0 {
+                break;
+            }
+            f.write_char(shown(byte))?;
         }
-        say(rt, &[shown(byte)]);
-        i += 1;
+        Ok(())
     }
 }
 
-fn shown(byte: u8) -> u8 {
-    if byte < b' ' {
-        return b'.';
+fn shown(byte: u8) -> char {
+    match byte {
+        b' '..0x7F => char::from(byte),
+        _ => '.',
     }
-    if byte < 0x7F { byte } else { b'.' }
 }

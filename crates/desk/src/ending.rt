@@ -1,35 +1,37 @@
 // How a load ended, in words.
-use refusals::Refusal;
-use console::voice;
+use console::Refused;
+use meeting::Met;
 use posts::Ending;
+use refusals::Refusal;
 
 // Done, or the number, its words and what was passed on.
-pub fn show_ending(to: &impl Print, ending: Ending, packets: usize, resent: usize) {
-    if !ending.over {
-        voice::say(to, b"not ended");
-    } else if ending.number == 0 {
-        voice::say(to, b"done");
-    } else {
-        voice::refusal(to, ending.number);
-        show_passed(to, ending.number, ending.passed);
+pub fn show_ending(rt: &impl Print, met: &Met) {
+    let _ = print!(rt; "  ");
+    match met.ending {
+        Ending::UnderWay => {
+            let _ = print!(rt; "not ended");
+        }
+        Ending::Done => {
+            let _ = print!(rt; "done");
+        }
+        Ending::Refused { refusal, passed } => {
+            let _ = rt.print(Refused(refusal));
+            if let Some(byte) = passed {
+                show_passed(rt, refusal, byte);
+            }
+        }
     }
-    voice::tell(
-        to,
-        b"; packets accepted \0, messages resent \0\n",
-        &[packets, resent],
+    let _ = println!(rt;
+        "; packets accepted {}, messages resent {}",
+        met.packets, met.resent
     );
 }
 
-fn show_passed(to: &impl Print, number: u8, passed: u8) {
-    match number {
-        Refusal::ModuleRefused => show_byte(to, b", ACK ", passed),
-        Refusal::BadNotice => show_byte(to, b", State ", passed),
-        _ => (),
-    }
-}
-
-fn show_byte(to: &impl Print, words: &[u8], passed: u8) {
-    voice::say(to, words);
-    voice::byte(to, passed);
-    voice::say(to, b" passed on");
+fn show_passed(rt: &impl Print, refusal: Refusal, passed: u8) {
+    let what = match refusal {
+        Refusal::ModuleRefused => "ACK",
+        Refusal::BadNotice => "State",
+        _ => return,
+    };
+    let _ = print!(rt; ", {what} {passed:02X} passed on");
 }

@@ -4,73 +4,72 @@
 mod ending;
 mod verdict;
 
-use console::{Got, voice};
-use kinds::Kind;
-use posts::Post;
-use std::rt::{Env, Files};
+use console::{FileError, Placed, Text};
+use lanes::Noise;
+use posts::{Ending, Post};
+use std::rt::Files;
 use ubf::{Block, Nth};
+use verdict::Judged;
 
-// What the arguments ask for.
-#[derive(Clone, Copy)]
-struct Wish {
-    seed: u64,
-    rate: u64,
-}
-
-// How far a file is: blocks done, whether the flash was right whenever one was, the post, and the state of the noise.
-#[derive(Clone, Copy)]
-struct Walk {
-    done: usize,
-    right: bool,
-    more: bool,
+// What a file is loaded into: the flash, the module before it and the noise on its line; what is said goes to rt.
+#[derive(Drop)]
+struct Desk<'a, 'b, P: Print> {
+    rt: &'a P,
+    flash: &'b mut [u8],
     post: Post,
-    noise: u64,
+    noise: Noise,
 }
 
 fn main(rt: HostRuntime) {
-    let wish = Wish {
-        seed: console::argument_number(&rt, 2),
-        rate: console::argument_number(&rt, 3),
-    };
-    if console::argument_count(&rt) != 4 || wish.seed == u64::MAX || wish.rate > 100000 {
-        console::say(
-            &rt,
-            b"usage: desk FILE.ubf SEED RATE\n\
-              SEED is a number; of 100,000 bytes on the line about RATE are disturbed, 0 to 100000\n",
-        );
+    let err = rt.stderr();
+    match console::arguments(&rt) {
+        Ok(words) => start(&rt, &err, &words),
+        Err(error) => console::fail(&err, b"desk", &error),
+    }
+}
+
+fn start(rt: &(impl Files + Print + AllocGlobal), err: &impl Print, words: &[Vec<u8>]) {
+    if let [_, path, seed, rate] = words
+        && let Some(noise) = noise_of(seed, rate)
+    {
+        load_file(rt, err, console::openable(path), noise);
         return;
     }
-    let mut path = console::path_room();
-    let length = rt.arg(1, &mut path).unwrap_or(0);
-    load_file(&rt, &rt.stderr(), octets::part(&path, 0, length), wish);
+    let _ = println!(rt;
+        "usage: desk FILE.ubf SEED RATE\n\
+         SEED is a number; of 100,000 bytes on the line about RATE are disturbed, 0 to 100000"
+    );
+}
+
+fn noise_of(seed: &[u8], rate: &[u8]) -> Option<Noise> {
+    let seed = console::number_of(seed)?;
+    let rate = console::number_of(rate)?;
+    if rate > 100000 {
+        return None;
+    }
+    Some(Noise::sown(seed, rate))
 }
 
 // Reads the whole file, if it is not too large, and loads it.
-fn load_file(rt: &(impl Files + Print), err: &impl Print, path: &[u8], wish: Wish) {
-    let mut file = console::file_room();
-    match console::read_whole(rt, err, path, &mut file) {
-        Got::Count(n) => load_blocks(rt, octets::part(&file, 0, n), wish),
-        Got::Failed => (),
-        Got::Larger => {
-            console::text(rt, path);
-            console::say(
-                rt,
-                b": larger than 524,288 bytes, the largest file that is taken\n",
+fn load_file(rt: &(impl Files + Print + AllocGlobal), err: &impl Print, path: &[u8], noise: Noise) {
+    match console::read_file(rt, path, console::FILE) {
+        Ok(file) => load_blocks(rt, &file, noise),
+        Err(FileError::Larger) => {
+            let name = Text(path);
+            let _ = println!(rt;
+                "{name}: larger than 524,288 bytes, the largest file that is taken"
             );
         }
+        Err(why) => console::fail(err, path, &why),
     }
 }
 
 // A file with a faulty block is not begun with.
-fn load_blocks(rt: &impl Print, file: &[u8], wish: Wish) {
+fn load_blocks(rt: &impl Print, file: &[u8], noise: Noise) {
     match ubf::block_at(file, file.len()) {
-        Nth::Past { count } => load_all(rt, file, count, wish),
-        Nth::Refused {
-            number,
-            place,
-            count,
-        } => verdict::refused(rt, number, place),
-        Nth::Found { block, place } => (),
+        Nth::Past { count } => load_all(rt, file, count, noise),
+        Nth::Refused { refusal, place, .. } => verdict::refused(rt, refusal, place),
+        Nth::Found { .. } => (),
     }
 }
 
@@ -79,94 +78,70 @@ fn erased() -> [u8; 262144] {
     [0xFFu8; 262144]
 }
 
-// Each block by a session of its own, over one flash.
-fn load_all(rt: &impl Print, file: &[u8], count: usize, wish: Wish) {
+// Each block by a session of its own, over one flash. A block that is not done is the last one.
+fn load_all(rt: &impl Print, file: &[u8], count: usize, noise: Noise) {
     let mut flash = erased();
-    let walk = load_each(rt, file, count, wish, &mut flash);
-    verdict::sum_up(rt, walk.done, count, walk.right);
-}
-
-fn load_each(rt: &impl Print, file: &[u8], count: usize, wish: Wish, flash: &mut [u8]) -> Walk {
-    let mut walk = Walk {
-        done: 0,
-        right: true,
-        more: true,
-        post: Post::waiting(),
-        noise: lanes::sown(wish.seed),
-    };
-    let mut n = 0;
-    while n < count && walk.more {
-        walk = load_nth(rt, walk, file, n, wish.rate, flash);
-        n += 1;
-    }
-    walk
-}
-
-fn load_nth(
-    rt: &impl Print,
-    walk: Walk,
-    file: &[u8],
-    n: usize,
-    rate: u64,
-    flash: &mut [u8],
-) -> Walk {
-    match ubf::block_at(file, n) {
-        Nth::Found { block, place } => {
-            let kind = block.kind;
-            show_block(rt, n, kind, block.extent, block.start);
-            load_block(rt, walk, block, octets::behind(file, place), rate, flash)
-        }
-        Nth::Past { count } => walk,
-        Nth::Refused {
-            number,
-            place,
-            count,
-        } => walk,
-    }
-}
-
-// People count from 1.
-fn show_block(rt: &impl Print, n: usize, kind: Kind, extent: u32, start: u32) {
-    voice::tell(rt, b"block \0: ", &[std::num::wrapping_add_usize(n, 1)]);
-    console::placed(rt, kind, extent, start);
-    console::say(rt, b"\n");
-}
-
-// Loads a block, and judges the flash against the image and against a copy from before. A block that is not done is the last one.
-fn load_block(
-    rt: &impl Print,
-    walk: Walk,
-    block: Block,
-    bytes: &[u8],
-    rate: u64,
-    flash: &mut [u8],
-) -> Walk {
-    let mut before = console::flash_room();
-    octets::copy(flash, &mut before, 0);
-    let image = ubf::image(bytes, block);
-    let post = walk.post;
-    let kind = block.kind;
-    let met = meeting::load(post, walk.noise, rate, kind, image, flash);
-    let after = met.post;
-    let log = met.log;
-    let is_right = verdict::judge(
+    let mut desk = Desk {
         rt,
-        log,
-        met.counts,
-        kinds::base_of(kind) as usize,
-        image,
-        flash,
-        &before,
-    );
-    let ending = log.ending;
-    let is_done = ending.over && ending.number == 0;
-    let mut next = walk;
-    next.post = after;
-    next.noise = log.noise;
-    next.more = is_done;
-    if is_done {
-        next.done = std::num::wrapping_add_usize(walk.done, 1);
-        next.right = walk.right && is_right;
+        flash: &mut flash,
+        post: Post::waiting(),
+        noise,
+    };
+    let mut done = 0;
+    let mut is_right = true;
+    for n in 0..count {
+        let Some(holds) = desk.load_nth(file, n) else {
+            break;
+        };
+        done = n + 1;
+        is_right = is_right && holds;
     }
-    next
+    verdict::sum_up(rt, done, count, is_right);
+}
+
+impl<P: Print> Desk<'_, '_, P> {
+    // Answers whether the flash is right, if the load is done.
+    fn load_nth(&mut self, file: &[u8], n: usize) -> Option<bool> {
+        match ubf::block_at(file, n) {
+            Nth::Found { block, place } => {
+                self.show_block(n, block);
+                self.load_block(block, octets::behind(file, place))
+            }
+            Nth::Past { .. } | Nth::Refused { .. } => None,
+        }
+    }
+
+    // People count from 1.
+    fn show_block(&self, n: usize, block: Block) {
+        let ordinal = n.wrapping_add(1);
+        let placed = Placed {
+            image: block.kind,
+            extent: block.extent,
+            start: block.start,
+        };
+        let _ = println!(self.rt; "block {ordinal}: {placed}");
+    }
+
+    // Loads a block, and judges the flash against the image and against a copy from before.
+    fn load_block(&mut self, block: Block, bytes: &[u8]) -> Option<bool> {
+        let rt = self.rt;
+        let mut before = erased();
+        octets::copy(self.flash, &mut before, 0);
+        let image = ubf::image(bytes, block);
+        let met = meeting::load(
+            &mut self.post,
+            &mut self.noise,
+            block.kind,
+            image,
+            self.flash,
+        );
+        let judged = Judged {
+            base: kinds::base_of(block.kind) as usize,
+            image,
+            flash: self.flash,
+            before: &before,
+        };
+        let is_right = judged.show(rt, &met);
+        (met.ending == Ending::Done).then_some(is_right)
+    }
 }

@@ -1,97 +1,85 @@
 // What is said of a load when it has ended.
 use crate::ending::show_ending;
-use console::voice;
+use console::Refused;
 use lanes::Lane;
-use meeting::{Counts, Log};
+use meeting::Met;
+use posts::Ending;
+use refusals::Refusal;
 
-// Prints how the load ended, what befell the bytes, and how the flash is. Answers whether the range holds the image and all else is
-// as it was before.
-pub fn judge(
-    rt: &impl Print,
-    log: Log,
-    counts: Counts,
-    base: usize,
-    image: &[u8],
-    flash: &[u8],
-    before: &[u8],
-) -> bool {
-    let ending = log.ending;
-    console::say(rt, b"  ");
-    show_ending(rt, ending, log.packets, counts.resent);
-    show_lane(rt, b"  to the board: ", log.out, counts.board_dropped);
-    show_lane(rt, b"  to the host: ", log.back, counts.host_dropped);
-    let holds = octets::same(octets::part(flash, base, image.len()), image);
-    let untouched = is_untouched(
-        base,
-        std::num::wrapping_add_usize(base, image.len()),
-        flash,
-        before,
-    );
-    show_flash(rt, holds, untouched);
-    let is_right = holds && untouched;
-    if ending.over && ending.number == 0 && !is_right {
-        show_wrong(rt, log.forged);
+// The flash after a load and before it, and the image that should stand at the base.
+#[derive(Clone, Copy)]
+pub struct Judged<'a> {
+    pub base: usize,
+    pub image: &'a [u8],
+    pub flash: &'a [u8],
+    pub before: &'a [u8],
+}
+
+impl Judged<'_> {
+    // Prints how the load ended, what befell the bytes, and how the flash is. Answers whether the range holds the image and all else is
+    // as it was before.
+    pub fn show(self, rt: &impl Print, met: &Met) -> bool {
+        show_ending(rt, met);
+        show_lane(rt, "board", met.out, met.board_dropped);
+        show_lane(rt, "host", met.back, met.host_dropped);
+        let holds = octets::part(self.flash, self.base, self.image.len()) == self.image;
+        let is_untouched = self.is_untouched();
+        show_flash(rt, holds, is_untouched);
+        let is_right = holds && is_untouched;
+        if met.ending == Ending::Done && !is_right {
+            let _ = println!(rt;
+                "  WRONG: done, but the flash is not as it should be; packets that noise has forged: {}",
+                met.forged
+            );
+        }
+        is_right
     }
-    is_right
-}
 
-// Whether all before and behind a range is as it was.
-fn is_untouched(base: usize, behind: usize, flash: &[u8], before: &[u8]) -> bool {
-    octets::same(octets::part(flash, 0, base), octets::part(before, 0, base))
-        && octets::same(
-            octets::behind(flash, behind),
-            octets::behind(before, behind),
-        )
-}
-
-fn show_wrong(rt: &impl Print, forged: usize) {
-    voice::tell(
-        rt,
-        b"  WRONG: done, but the flash is not as it should be; packets that noise has forged: \0\n",
-        &[forged],
-    );
+    // Whether all before and behind the range is as it was.
+    fn is_untouched(self) -> bool {
+        let behind = self.base.wrapping_add(self.image.len());
+        octets::part(self.flash, 0, self.base) == octets::part(self.before, 0, self.base)
+            && octets::behind(self.flash, behind) == octets::behind(self.before, behind)
+    }
 }
 
 // A file with a faulty block.
-pub fn refused(rt: &impl Print, number: u8, place: usize) {
-    console::refusal(rt, number);
-    voice::tell(
-        rt,
-        b", at byte \0 of the file; nothing is loaded\n",
-        &[place],
-    );
+pub fn refused(rt: &impl Print, refusal: Refusal, place: usize) {
+    let refused = Refused(refusal);
+    let _ = println!(rt; "{refused}, at byte {place} of the file; nothing is loaded");
 }
 
 // The last words on a file.
 pub fn sum_up(rt: &impl Print, done: usize, count: usize, is_right: bool) {
-    voice::tell(rt, b"verdict: \0 of \0 blocks done, ", &[done, count]);
-    if !is_right {
-        console::say(rt, b"FLASH WRONG\n");
+    let words = if !is_right {
+        "FLASH WRONG"
     } else if done == count {
-        console::say(rt, b"flash right\n");
+        "flash right"
     } else {
-        console::say(rt, b"the file is not loaded\n");
-    }
+        "the file is not loaded"
+    };
+    let _ = println!(rt; "verdict: {done} of {count} blocks done, {words}");
 }
 
-fn show_lane(rt: &impl Print, words: &[u8], lane: Lane, dropped: usize) {
-    console::say(rt, words);
-    voice::tell(
-        rt,
-        b"\0 bytes sent, \0 hit, \0 inserted, \0 lost; \0 frames dropped\n",
-        &[lane.sent, lane.hit, lane.inserted, lane.lost, dropped],
+fn show_lane(rt: &impl Print, end: &str, lane: Lane, dropped: usize) {
+    let Lane {
+        sent,
+        hit,
+        inserted,
+        lost,
+        ..
+    } = lane;
+    let _ = println!(rt;
+        "  to the {end}: {sent} bytes sent, {hit} hit, {inserted} inserted, {lost} lost; {dropped} frames dropped"
     );
 }
 
-fn show_flash(rt: &impl Print, holds: bool, untouched: bool) {
-    if holds {
-        console::say(rt, b"  the range holds the image; ");
+fn show_flash(rt: &impl Print, holds: bool, is_untouched: bool) {
+    let range = if holds { "holds" } else { "does not hold" };
+    let rest = if is_untouched {
+        "all else is untouched"
     } else {
-        console::say(rt, b"  the range does not hold the image; ");
-    }
-    if untouched {
-        console::say(rt, b"all else is untouched\n");
-    } else {
-        console::say(rt, b"ALL ELSE IS NOT UNTOUCHED\n");
-    }
+        "ALL ELSE IS NOT UNTOUCHED"
+    };
+    let _ = println!(rt; "  the range {range} the image; {rest}");
 }

@@ -1,5 +1,5 @@
 -- A lane without noise: each byte is put behind those under way, and counted; without room it is lost.
-use Rattle.std.specs.Prelude.{◌≡◌, ℕ, ◌+◌, ◌%◌, ◌^◌, cond, List, [], ◌∷◌, length, nat_le, nat_lt, slice_set}
+use Rattle.std.specs.Prelude.{◌≡◌, ℕ, Bool, ◌+◌, ◌%◌, ◌^◌, cond, List, [], ◌∷◌, length, nat_le, nat_lt, slice_set}
 use Rattle.lanes.specs.declared.Lane.{Lane}
 
 -- A lane, and the buffer that its bytes stand in.
@@ -41,6 +41,13 @@ passed w byte = put_of (counted_of w.lane) byte w.bytes
 unfoldable pub passes : Way → List ℕ → Way
 passes w [] = w
 passes w (b ∷ bs) = passes (passed w b) bs
+
+-- Whether a byte is under way, and the lane when it is taken.
+abbrev pub is_under_way : Lane → Bool
+is_under_way l = nat_lt l.at l.end
+
+abbrev pub taken_of : Lane → Lane
+taken_of l = lane_with (l.at + 1) l.end l.sent l.hit l.inserted l.lost
 
 -- What a clean lane leaves.
 abbrev pub clean_of : Lane → List ℕ → List ℕ → Way

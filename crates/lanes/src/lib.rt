@@ -2,11 +2,15 @@
 // lane is clean, and its contract is an equation; what noise does is any bytes to those who hear it.
 #![tactic(auto)]
 
-ghost use Rattle.std.specs.Prelude.{◌≡◌};
-ghost use Rattle.lanes.specs.Lanes.{way, lane_with, cleared_of, counted_of, lost_of, put_of, passed, Cleanly, clean_of};
+mod noise;
+
+ghost use Rattle.std.specs.Prelude.{◌≡◌, Some, None, cond, get_or};
+ghost use Rattle.lanes.specs.Lanes.{way, lane_with, cleared_of, counted_of, lost_of, put_of, passed, is_under_way, taken_of, Cleanly, clean_of};
+
+pub use noise::Noise;
 
 // The bytes under way stand in a lent buffer from at to end.
-#[derive(Clone, Copy)]
+#[derive(Clone, Copy, Debug, Default, PartialEq, Eq)]
 pub struct Lane {
     pub at: usize,
     pub end: usize,
@@ -16,143 +20,118 @@ pub struct Lane {
     pub lost: usize,
 }
 
-// A lane, and the state of the noise.
-#[derive(Clone, Copy)]
-pub struct Laid {
+// A lane, and the buffer that its bytes stand in.
+#[derive(Drop)]
+pub struct Line<'a> {
     pub lane: Lane,
-    pub noise: u64,
+    pub bytes: &'a mut [u8],
 }
 
-pub fn empty() -> Lane
-    ensures { result ≡ lane_with 0 0 0 0 0 0 }
-{
-    Lane {
-        at: 0,
-        end: 0,
-        sent: 0,
-        hit: 0,
-        inserted: 0,
-        lost: 0,
+impl Lane {
+    pub fn empty() -> Lane
+        ensures { result ≡ lane_with 0 0 0 0 0 0 }
+    {
+        Lane::default()
+    }
+
+    // A lane that nothing is under way on begins anew at the front.
+    fn clear(&mut self)
+        ensures { self.new ≡ cleared_of self.old }
+    {
+        if self.end <= self.at {
+            self.at = 0;
+            self.end = 0;
+        }
+    }
+
+    fn count(&mut self)
+        ensures { self.new ≡ counted_of self.old }
+    {
+        self.sent = self.sent.wrapping_add(1);
+    }
+
+    fn lose(&mut self)
+        ensures { self.new ≡ lost_of self.old }
+    {
+        self.lost = self.lost.wrapping_add(1);
     }
 }
 
-// The state that a seed gives: any but 0, stirred until near seeds have gone apart.
-pub fn sown(seed: u64) -> u64 {
-    let mut noise = std::num::wrapping_add_u64(seed, 0x9E3779B97F4A7C15);
-    if noise == 0 {
-        noise = 1;
+impl Line<'_> {
+    // Sends bytes down the lane. What has been taken makes room; a byte without room is lost.
+    pub fn lay(&mut self, noise: &mut Noise, bytes: &[u8])
+        ensures clean { Cleanly noise.old.rate (way self.new.lane self.new.bytes.now) (clean_of self.old.lane bytes.now self.old.bytes.now) }
+        ensures same_rate { noise.new.rate ≡ noise.old.rate }
+    {
+        self.lane.clear();
+        for &byte in bytes {
+            self.lay_byte(noise, byte);
+        }
     }
-    let mut i: usize = 0;
-    while i < 64 {
-        noise = stirred(noise);
-        i += 1;
+
+    // Takes the next byte that is under way, if one is.
+    pub fn take(&mut self) -> Option<u8>
+        ensures byte { result ≡ cond (is_under_way self.old.lane) (Some (get_or self.old.bytes.now self.old.lane.at 0)) None }
+        ensures lane { self.new.lane ≡ cond (is_under_way self.old.lane) (taken_of self.old.lane) self.old.lane }
+        ensures same_bytes { self.new.bytes.now ≡ self.old.bytes.now }
+    {
+        let at = self.lane.at;
+        if self.lane.end <= at {
+            return None;
+        }
+        self.lane.at = at + 1;
+        Some(if at < self.bytes.len() {
+            self.bytes[at]
+        } else {
+            0
+        })
     }
-    noise
-}
 
-// The next state, by Marsaglia's three shifts.
-fn stirred(x: u64) -> u64 {
-    let a = x ^ (x << 13);
-    let b = a ^ (a >> 7);
-    b ^ (b << 17)
-}
-
-// Sends bytes down the lane. What has been taken makes room; a byte without room is lost.
-pub fn lay(lane: Lane, noise: u64, rate: u64, bytes: &[u8], under: &mut [u8]) -> Laid
-    ensures { Cleanly rate (way result.lane under.new) (clean_of lane bytes.now under.old) }
-{
-    let mut laid = Laid {
-        lane: cleared(lane),
-        noise: noise,
-    };
-    let mut i = 0;
-    while i < bytes.len() {
-        laid = lay_byte(laid, rate, bytes[i], under);
-        i += 1;
+    // One byte: by the rate it is left alone, hit, lost, or has a byte inserted before it.
+    fn lay_byte(&mut self, noise: &mut Noise, byte: u8)
+        ensures clean { Cleanly noise.old.rate (way self.new.lane self.new.bytes.now) (passed (way self.old.lane self.old.bytes.now) byte) }
+        ensures same_rate { noise.new.rate ≡ noise.old.rate }
+    {
+        let draw = noise.drawn();
+        self.lane.count();
+        if noise.rate <= draw / 2048 % 100000 {
+            self.put(byte);
+            return;
+        }
+        let chance = noise.drawn();
+        let random = (chance / 4096 % 256) as u8;
+        match chance / 1048576 % 3 {
+            0 => self.hit(byte, random),
+            1 => self.lane.lose(),
+            _ => self.insert(byte, random),
+        }
     }
-    laid
-}
 
-// A lane that nothing is under way on begins anew at the front.
-fn cleared(lane: Lane) -> Lane
-    ensures { result ≡ cleared_of lane }
-{
-    let mut next = lane;
-    if lane.end <= lane.at {
-        next.at = 0;
-        next.end = 0;
+    // A hit byte is always another one.
+    fn hit(&mut self, byte: u8, random: u8) {
+        self.lane.hit = self.lane.hit.wrapping_add(1);
+        self.put(if random == 0 {
+            byte ^ 255
+        } else {
+            byte ^ random
+        });
     }
-    next
-}
 
-// One byte: by the rate it is left alone, hit, lost, or has a byte inserted before it.
-fn lay_byte(laid: Laid, rate: u64, byte: u8, under: &mut [u8]) -> Laid
-    ensures { Cleanly rate (way result.lane under.new) (passed (way laid.lane under.old) byte) }
-{
-    let noise = stirred(laid.noise);
-    let lane = counted(laid.lane);
-    if rate <= noise / 2048 % 100000 {
-        return settled(put(lane, byte, under), noise);
+    fn insert(&mut self, byte: u8, random: u8) {
+        self.lane.inserted = self.lane.inserted.wrapping_add(1);
+        self.put(random);
+        self.put(byte);
     }
-    let chance = stirred(noise);
-    let random = (chance / 4096 % 256) as u8;
-    match chance / 1048576 % 3 {
-        0 => settled(hit(lane, byte, random, under), chance),
-        1 => settled(lost(lane), chance),
-        _ => settled(inserted(lane, byte, random, under), chance),
+
+    fn put(&mut self, byte: u8)
+        ensures { way self.new.lane self.new.bytes.now ≡ put_of self.old.lane byte self.old.bytes.now }
+    {
+        let end = self.lane.end;
+        if end < self.bytes.len() {
+            self.bytes[end] = byte;
+            self.lane.end = end + 1;
+        } else {
+            self.lane.lose();
+        }
     }
-}
-
-fn settled(lane: Lane, noise: u64) -> Laid
-    ensures { result ≡ record { lane = lane; noise = noise } }
-{
-    Laid {
-        lane: lane,
-        noise: noise,
-    }
-}
-
-fn counted(lane: Lane) -> Lane
-    ensures { result ≡ counted_of lane }
-{
-    let mut next = lane;
-    next.sent = std::num::wrapping_add_usize(lane.sent, 1);
-    next
-}
-
-// A hit byte is always another one.
-fn hit(lane: Lane, byte: u8, random: u8, under: &mut [u8]) -> Lane {
-    let mut next = lane;
-    next.hit = std::num::wrapping_add_usize(lane.hit, 1);
-    if random == 0 {
-        return put(next, byte ^ 255, under);
-    }
-    put(next, byte ^ random, under)
-}
-
-fn lost(lane: Lane) -> Lane
-    ensures { result ≡ lost_of lane }
-{
-    let mut next = lane;
-    next.lost = std::num::wrapping_add_usize(lane.lost, 1);
-    next
-}
-
-fn inserted(lane: Lane, byte: u8, random: u8, under: &mut [u8]) -> Lane {
-    let mut next = lane;
-    next.inserted = std::num::wrapping_add_usize(lane.inserted, 1);
-    put(put(next, random, under), byte, under)
-}
-
-fn put(lane: Lane, byte: u8, under: &mut [u8]) -> Lane
-    ensures { way result under.new ≡ put_of lane byte under.old }
-{
-    let at = lane.end;
-    if at < under.len() {
-        under[at] = byte;
-        let mut next = lane;
-        next.end = at + 1;
-        return next;
-    }
-    lost(lane)
 }

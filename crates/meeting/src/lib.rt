@@ -2,295 +2,189 @@
 // what they do is tested.
 #![tactic(auto)]
 
-use host::{Answer, Session};
+use host::{Answer, Session, Stepped};
 use kinds::Kind;
-use lanes::{Lane, empty, lay};
+use lanes::{Lane, Line, Noise};
 use posts::{Caller, CallerStep, Ending, Post, PostStep, View, view_of};
 use stages::{Rate, Same, Start};
 
-// Packets counts those that the host knows to be accepted; forged counts those that the board has written with other bytes than the
-// image's, since noise can pass every check of a frame. Out goes to the board, back to the host.
+// What a load leaves. Out goes to the board, back to the host. Packets counts those that the host knows to be accepted; forged counts those
+// that the board has written with other bytes than the image's, since noise can pass every check of a frame.
 #[derive(Clone, Copy)]
-pub struct Log {
+pub struct Met {
     pub out: Lane,
     pub back: Lane,
-    pub noise: u64,
-    pub rate: u64,
     pub packets: usize,
     pub forged: usize,
-    pub ending: Ending,
-}
-
-// What the ends have counted.
-#[derive(Clone, Copy)]
-pub struct Counts {
     pub resent: usize,
     pub board_dropped: usize,
     pub host_dropped: usize,
+    pub ending: Ending,
 }
 
-// What a load leaves.
-#[derive(Clone, Copy)]
-pub struct Met {
-    pub post: Post,
-    pub counts: Counts,
-    pub log: Log,
-}
-
-#[derive(Clone, Copy)]
-struct Desk {
+// A load under way.
+#[derive(Drop)]
+struct Meeting<'a> {
     caller: Caller,
     post: Post,
-    log: Log,
+    noise: Noise,
+    image: &'a [u8],
+    flash: &'a mut [u8],
+    out: Line<'a>,
+    back: Line<'a>,
+    packets: usize,
+    forged: usize,
+    ending: Ending,
 }
 
-// One end after its step, beside what has happened on the line.
-#[derive(Clone, Copy)]
-struct Called {
-    caller: Caller,
-    log: Log,
-}
-
-#[derive(Clone, Copy)]
-struct Posted {
-    post: Post,
-    log: Log,
-}
-
-// Loads one image.
-pub fn load(post: Post, noise: u64, rate: u64, kind: Kind, image: &[u8], flash: &mut [u8]) -> Met {
-    let mut out = [0u8; 8192];
-    let mut back = [0u8; 8192];
-    let mut there = post;
-    there.dropped = 0;
-    let desk = open(there, noise, rate, kind, image, &mut out);
-    left(run(desk, image, flash, &mut out, &mut back))
-}
-
-fn left(desk: Desk) -> Met {
-    let caller = desk.caller;
-    let post = desk.post;
-    let log = desk.log;
-    let counts = Counts {
-        resent: caller.resent,
-        board_dropped: post.dropped,
-        host_dropped: caller.dropped,
-    };
-    Met {
-        post: post,
-        counts: counts,
-        log: log,
-    }
-}
-
-// Turns until the load has ended. A proved loop has to end, and a load does too, but that is not said here: so they are counted down.
-fn run(desk: Desk, image: &[u8], flash: &mut [u8], out: &mut [u8], back: &mut [u8]) -> Desk {
-    let mut next = desk;
-    let mut turns = u64::MAX;
-    while turns > 0 && is_going(next) {
-        next = turn(next, image, flash, out, back);
-        turns -= 1;
-    }
-    next
-}
-
-fn is_going(desk: Desk) -> bool {
-    let log = desk.log;
-    let ending = log.ending;
-    !ending.over
-}
-
-// The host opens its session, and its first message is under way.
-fn open(post: Post, noise: u64, rate: u64, kind: Kind, image: &[u8], out: &mut [u8]) -> Desk {
+// Loads one image. The post and the noise go on from where they are.
+pub fn load(post: &mut Post, noise: &mut Noise, kind: Kind, image: &[u8], flash: &mut [u8]) -> Met {
+    let mut out_room = [0u8; 8192];
+    let mut back_room = [0u8; 8192];
     let mut message = [0u8; 2080];
-    let opened = Session::opening(
+    let opened = opening(kind, image, &mut message);
+    let out = Line {
+        lane: Lane::empty(),
+        bytes: &mut out_room,
+    };
+    let back = Line {
+        lane: Lane::empty(),
+        bytes: &mut back_room,
+    };
+    let mut meeting = Meeting {
+        caller: Caller::new(opened.session),
+        post: Post {
+            dropped: 0,
+            ..*post
+        },
+        noise: *noise,
+        image,
+        flash,
+        out,
+        back,
+        packets: 0,
+        forged: 0,
+        ending: posts::begun(),
+    };
+    meeting.says(opened.answer, &message);
+    meeting.run();
+    *post = meeting.post;
+    *noise = meeting.noise;
+    meeting.met()
+}
+
+// The host opens its session.
+fn opening(kind: Kind, image: &[u8], message: &mut [u8]) -> Stepped {
+    Session::opening(
         kinds::number_of(kind),
         image,
         Rate::R115200,
         commands::LARGEST_PACKET,
         Start::WithText,
         Same::GoOn,
-        &mut message,
-    );
-    let session = opened.session;
-    let answer = opened.answer;
-    let log = Log {
-        out: empty(),
-        back: empty(),
-        noise: noise,
-        rate: rate,
-        packets: 0,
-        forged: 0,
-        ending: posts::begun(),
-    };
-    Desk {
-        caller: Caller::new(session),
-        post: post,
-        log: says(log, answer, &message, out),
+        message,
+    )
+}
+
+impl Meeting<'_> {
+    // Turns until the load has ended. A proved loop has to end, and a load does too, but that is not said here: so they are counted.
+    fn run(&mut self) {
+        for _ in 0..u64::MAX {
+            if self.ending != Ending::UnderWay {
+                break;
+            }
+            self.turn();
+        }
     }
-}
 
-// The next byte goes to the host, else to the board; where none is under way 100 ms pass for both.
-fn turn(desk: Desk, image: &[u8], flash: &mut [u8], out: &mut [u8], back: &mut [u8]) -> Desk {
-    let caller = desk.caller;
-    let post = desk.post;
-    let log = desk.log;
-    if is_waiting(log.out) && !is_waiting(log.back) {
-        let posted = board_hears(post, log, image, flash, out, back);
-        let there = posted.post;
-        let told = posted.log;
-        return Desk {
-            caller: caller,
-            post: there,
-            log: told,
-        };
+    // The next byte goes to the host, else to the board; where none is under way 100 ms pass for both.
+    fn turn(&mut self) {
+        if let Some(byte) = self.back.take() {
+            self.host_hears(byte);
+        } else if let Some(byte) = self.out.take() {
+            self.board_hears(byte);
+        } else {
+            self.host_waits();
+            self.board_waits();
+        }
     }
-    let called = host_turns(caller, log, image, out, back);
-    let after = called.caller;
-    let told = called.log;
-    if is_waiting(log.back) {
-        return Desk {
-            caller: after,
-            post: post,
-            log: told,
-        };
+
+    fn host_hears(&mut self, byte: u8) {
+        let mut message = [0u8; 2080];
+        let step = self.caller.hear(byte, self.image, &mut message);
+        self.host_goes(step, &message);
     }
-    let posted = board_waits(post, told, flash, back);
-    let there = posted.post;
-    let last = posted.log;
-    Desk {
-        caller: after,
-        post: there,
-        log: last,
+
+    fn host_waits(&mut self) {
+        let mut message = [0u8; 2080];
+        let step = self.caller.wait(100, self.image, &mut message);
+        self.host_goes(step, &message);
     }
-}
 
-// Whether bytes are under way on a lane.
-fn is_waiting(lane: Lane) -> bool {
-    lane.at < lane.end
-}
-
-// The host takes a byte if one is under way to it, else time.
-fn host_turns(caller: Caller, log: Log, image: &[u8], out: &mut [u8], back: &[u8]) -> Called {
-    let mut message = [0u8; 2080];
-    let lane = log.back;
-    if is_waiting(lane) {
-        let mut next = log;
-        next.back = taken(lane);
-        let step = caller.hear(octets::byte_at(back, lane.at), image, &mut message);
-        return host_goes(next, step, &message, out);
+    // What the host's step leaves: its message goes out. An ended session knows no packets any more.
+    fn host_goes(&mut self, step: CallerStep, message: &[u8]) {
+        self.caller = step.caller;
+        let accepted = self.caller.session().progress().accepted;
+        self.packets = self.packets.max(accepted);
+        self.says(step.answer, message);
     }
-    let step = caller.wait(100, image, &mut message);
-    host_goes(log, step, &message, out)
-}
 
-fn taken(lane: Lane) -> Lane {
-    let mut next = lane;
-    next.at = std::num::wrapping_add_usize(lane.at, 1);
-    next
-}
-
-// What the host's step leaves: its message goes out.
-fn host_goes(log: Log, step: CallerStep, message: &[u8], out: &mut [u8]) -> Called {
-    let caller = step.caller;
-    let answer = step.answer;
-    let session = caller.session();
-    let progress = session.progress();
-    let mut next = log;
-    next.packets = more_of(log.packets, progress.accepted);
-    Called {
-        caller: caller,
-        log: says(next, answer, message, out),
+    fn says(&mut self, answer: Answer, message: &[u8]) {
+        let said = octets::part(message, 0, posts::said(answer));
+        self.out.lay(&mut self.noise, said);
+        self.ending = posts::ended_by(answer);
     }
-}
 
-// An ended session knows no packets any more.
-fn more_of(a: usize, b: usize) -> usize {
-    if a < b { b } else { a }
-}
-
-fn says(log: Log, answer: Answer, message: &[u8], out: &mut [u8]) -> Log {
-    let laid = lay(
-        log.out,
-        log.noise,
-        log.rate,
-        octets::part(message, 0, posts::said(answer)),
-        out,
-    );
-    let lane = laid.lane;
-    let ending = posts::ended_by(answer);
-    let mut next = log;
-    next.out = lane;
-    next.noise = laid.noise;
-    next.ending = ending;
-    next
-}
-
-fn board_hears(
-    post: Post,
-    log: Log,
-    image: &[u8],
-    flash: &mut [u8],
-    out: &[u8],
-    back: &mut [u8],
-) -> Posted {
-    let mut reply = [0u8; 64];
-    let lane = log.out;
-    let before = view_of(post);
-    let step = post.hear(octets::byte_at(out, lane.at), flash, &mut reply);
-    let mut next = log;
-    next.out = taken(lane);
-    next.forged = forgeries(log.forged, before, view_of(step.post), image, flash);
-    board_goes(next, step, &reply, back)
-}
-
-// One more where the step has written something else than the image's own bytes.
-fn forgeries(count: usize, before: View, after: View, image: &[u8], flash: &[u8]) -> usize {
-    if after.written <= before.written {
-        return count;
+    fn board_hears(&mut self, byte: u8) {
+        let mut reply = [0u8; 64];
+        let before = view_of(self.post);
+        let step = self.post.hear(byte, self.flash, &mut reply);
+        self.board_goes(step, &reply);
+        if self.has_forged(before, view_of(self.post)) {
+            self.forged = self.forged.wrapping_add(1);
+        }
     }
-    let size = after.written - before.written;
-    let at = std::num::wrapping_add_usize(after.base, before.written);
-    if octets::same(
-        octets::part(flash, at, size),
-        octets::part(image, before.written, size),
-    ) {
-        return count;
+
+    // Whether a step has written something else than the image's own bytes.
+    fn has_forged(&self, before: View, after: View) -> bool {
+        if after.written <= before.written {
+            return false;
+        }
+        let size = after.written - before.written;
+        let at = after.base.wrapping_add(before.written);
+        octets::part(self.flash, at, size) != octets::part(self.image, before.written, size)
     }
-    std::num::wrapping_add_usize(count, 1)
-}
 
-fn board_waits(post: Post, log: Log, flash: &mut [u8], back: &mut [u8]) -> Posted {
-    let mut reply = [0u8; 64];
-    let step = post.wait(100, flash, &mut reply);
-    board_goes(log, step, &reply, back)
-}
+    fn board_waits(&mut self) {
+        let mut reply = [0u8; 64];
+        let step = self.post.wait(100, self.flash, &mut reply);
+        self.board_goes(step, &reply);
+    }
 
-// What the board's step leaves: its reply goes back.
-fn board_goes(log: Log, step: PostStep, reply: &[u8], back: &mut [u8]) -> Posted {
-    let post = step.post;
-    let answer = step.answer;
-    let laid = lay(
-        log.back,
-        log.noise,
-        log.rate,
-        octets::part(reply, 0, replied(answer)),
-        back,
-    );
-    let lane = laid.lane;
-    let mut next = log;
-    next.back = lane;
-    next.noise = laid.noise;
-    Posted {
-        post: post,
-        log: next,
+    // What the board's step leaves: its reply goes back.
+    fn board_goes(&mut self, step: PostStep, reply: &[u8]) {
+        self.post = step.post;
+        let replied = octets::part(reply, 0, replied(step.answer));
+        self.back.lay(&mut self.noise, replied);
+    }
+
+    fn met(&self) -> Met {
+        Met {
+            out: self.out.lane,
+            back: self.back.lane,
+            packets: self.packets,
+            forged: self.forged,
+            resent: self.caller.resent,
+            board_dropped: self.post.dropped,
+            host_dropped: self.caller.dropped,
+            ending: self.ending,
+        }
     }
 }
 
 fn replied(answer: module::Answer) -> usize {
     match answer {
-        module::Answer::Nothing => 0,
         module::Answer::Sent(n) => n,
-        module::Answer::Refused(number) => 0,
+        module::Answer::Nothing | module::Answer::Refused(_) => 0,
     }
 }

@@ -1,5 +1,6 @@
 // The flash around the range of the transfer, and whether all of it holds what it should.
 use crate::FLASH;
+use console::Row;
 
 // Type 1 begins here.
 const BASE: usize = 0x8000;
@@ -16,57 +17,36 @@ pub(crate) fn erased() -> [u8; FLASH] {
 
 // Prints the bytes from 0x7FFC to 0x8017, and judges the whole flash: so many bytes of the image stand in it, and nothing else.
 pub(crate) fn show_flash(rt: &impl Print, count: usize, flash: &[u8]) {
-    show_line(rt, 0x7FFC, octets::part(flash, 0x7FFC, 4));
-    show_line(rt, 0x8000, octets::part(flash, 0x8000, 16));
-    show_line(rt, 0x8010, octets::part(flash, 0x8010, 8));
-    let image = IMAGE;
-    let mut wanted = erased();
-    octets::copy(octets::part(&image, 0, count), &mut wanted, BASE);
-    judge(rt, count, flash, &wanted);
-}
-
-// An address and the bytes from there on.
-fn show_line(rt: &impl Print, address: u32, bytes: &[u8]) {
-    console::say(rt, b"flash  ");
-    console::word(rt, address);
-    console::say(rt, b" ");
-    console::row(rt, bytes, 0);
-    console::say(rt, b"\n");
+    for (address, size) in [(0x7FFC, 4), (0x8000, 16), (0x8010, 8)] {
+        let row = Row {
+            bytes: octets::part(flash, address, size),
+            places: 0,
+        };
+        let _ = println!(rt; "flash  0x{address:08X} {row}");
+    }
+    judge(rt, octets::part(&IMAGE, 0, count), flash);
 }
 
 // Whether a flash is as it should be: in the range of the image, before it and behind it.
-fn judge(rt: &impl Print, count: usize, flash: &[u8], wanted: &[u8]) {
+fn judge(rt: &impl Print, image: &[u8], flash: &[u8]) {
+    let count = image.len();
     let before = octets::part(flash, 0, BASE);
     let behind = octets::behind(octets::behind(flash, BASE), count);
-    console::say(rt, b"flash  ");
-    console::number(rt, count);
-    console::say(rt, b" of 14 image bytes in place: ");
-    verdict(
-        rt,
-        octets::same(
-            octets::part(flash, BASE, count),
-            octets::part(wanted, BASE, count),
-        ),
+    let _ = println!(rt;
+        "flash  {count} of 14 image bytes in place: {}; {} before them all FF: {}; {} behind all FF: {}",
+        verdict(octets::part(flash, BASE, count) == image),
+        before.len(),
+        verdict(is_erased(before)),
+        behind.len(),
+        verdict(is_erased(behind))
     );
-    console::say(rt, b"; ");
-    console::number(rt, before.len());
-    console::say(rt, b" before them all FF: ");
-    verdict(rt, octets::same(before, octets::part(wanted, 0, BASE)));
-    console::say(rt, b"; ");
-    console::number(rt, behind.len());
-    console::say(rt, b" behind all FF: ");
-    verdict(
-        rt,
-        octets::same(behind, octets::behind(octets::behind(wanted, BASE), count)),
-    );
-    console::say(rt, b"\n");
+}
+
+fn is_erased(bytes: &[u8]) -> bool {
+    bytes.iter().all(|&byte| byte == 0xFF)
 }
 
 // A test's outcome; the one that nobody wants stands out.
-fn verdict(rt: &impl Print, holds: bool) {
-    if holds {
-        console::say(rt, b"yes");
-    } else {
-        console::say(rt, b"NO");
-    }
+fn verdict(holds: bool) -> &'static str {
+    if holds { "yes" } else { "NO" }
 }

@@ -1,193 +1,96 @@
-// The story, step by step. In a table each step has a letter:
-//   t  a title                      f  a frame                          s  where the session stands
-//   o  opens over the flash         r  one with a reply of 63 bytes     c  the flash with so many bytes of the image
-//   e  opens over an empty one      l  one over a flash of 100 bytes    w  so many milliseconds pass
-//                                   n  one over an empty flash
+// The story, step by step.
 use crate::flash::show_flash;
-use module::{Event, Session};
-use spoken_frames::words_only;
+use crate::story::{Lent, STORY, Step};
+use console::Row;
+use module::{Event, Session, Stepped};
+use spoken_frames::{Lines, Mark};
 use spoken_module::{PLACES, show_answer, show_opening, show_session};
 
-// The session, and how far the table is played.
-#[derive(Clone, Copy)]
-struct Playing {
+// The session, its flash, and where the lines go.
+#[derive(Drop)]
+struct Bench<'a, P: Print> {
+    lines: Lines<'a, P>,
     session: Session,
-    at: usize,
+    flash: &'a mut [u8],
 }
 
-// No table has more steps than bytes.
-pub(crate) fn play(rt: &impl Print, table: &[u8], flash: &mut [u8]) {
-    let mut next = begun();
-    let mut turns = table.len();
-    while turns > 0 && next.at < table.len() {
-        next = turn(rt, next, octets::behind(table, next.at), flash);
-        turns -= 1;
-    }
-}
-
-fn begun() -> Playing {
-    let stepped = Session::opening(b"");
-    let session = stepped.session;
-    Playing {
-        session: session,
-        at: 0,
-    }
-}
-
-// The step at the front of what is left.
-fn turn(rt: &impl Print, playing: Playing, rest: &[u8], flash: &mut [u8]) -> Playing {
-    let count = octets::byte_at(rest, 1) as usize;
-    let head = std::num::wrapping_add_usize(count, 2);
-    let behind = octets::behind(rest, head);
-    let words = octets::part(behind, 0, octets::text_length(behind));
-    let size = std::num::wrapping_add_usize(head, std::num::wrapping_add_usize(words.len(), 1));
-    let session = playing.session;
-    let next = step(
-        rt,
-        session,
-        octets::byte_at(rest, 0),
-        octets::part(rest, 2, count),
-        words,
+pub(crate) fn play(rt: &impl Print, flash: &mut [u8]) {
+    let mut bench = Bench {
+        lines: Lines { rt, places: PLACES },
+        session: Session::opening(b"").session,
         flash,
-    );
-    Playing {
-        session: next,
-        at: std::num::wrapping_add_usize(playing.at, size),
-    }
-}
-
-fn step(
-    rt: &impl Print,
-    session: Session,
-    letter: u8,
-    bytes: &[u8],
-    words: &[u8],
-    flash: &mut [u8],
-) -> Session {
-    match letter {
-        b'f' => give(rt, session, bytes, words, flash),
-        b'w' => wait(rt, session, octets::two_at(bytes, 0) as u32, flash),
-        b'r' => give_short(rt, session, bytes, words, flash),
-        b'l' => give_other(rt, session, bytes, words),
-        b'n' => give_none(rt, session, bytes, words),
-        _ => show(rt, session, letter, bytes, words, flash),
-    }
-}
-
-// Steps that give the session nothing.
-fn show(
-    rt: &impl Print,
-    session: Session,
-    letter: u8,
-    bytes: &[u8],
-    words: &[u8],
-    flash: &[u8],
-) -> Session {
-    match letter {
-        b's' => show_session(rt, session),
-        b'c' => show_flash(rt, octets::byte_at(bytes, 0) as usize, flash),
-        b't' => show_title(rt, words),
-        b'o' => return open(rt, flash),
-        _ => return open(rt, b""),
-    }
-    session
-}
-
-fn show_title(rt: &impl Print, words: &[u8]) {
-    console::say(rt, b"\n");
-    console::say(rt, words);
-    console::say(rt, b"\n");
-}
-
-// Opens a session and says how that went.
-fn open(rt: &impl Print, flash: &[u8]) -> Session {
-    let stepped = Session::opening(flash);
-    let session = stepped.session;
-    let answer = stepped.answer;
-    show_opening(rt, answer);
-    show_session(rt, session);
-    session
-}
-
-// A frame arrives, and there is room for any reply.
-fn give(
-    rt: &impl Print,
-    session: Session,
-    bytes: &[u8],
-    words: &[u8],
-    flash: &mut [u8],
-) -> Session {
-    let mut reply = [0u8; 64];
-    give_into(rt, session, bytes, words, flash, &mut reply)
-}
-
-fn give_short(
-    rt: &impl Print,
-    session: Session,
-    bytes: &[u8],
-    words: &[u8],
-    flash: &mut [u8],
-) -> Session {
-    let mut reply = [0u8; 63];
-    give_into(rt, session, bytes, words, flash, &mut reply)
-}
-
-fn give_other(rt: &impl Print, session: Session, bytes: &[u8], words: &[u8]) -> Session {
-    let mut flash = [0xFFu8; 100];
-    give(rt, session, bytes, words, &mut flash)
-}
-
-fn give_none(rt: &impl Print, session: Session, bytes: &[u8], words: &[u8]) -> Session {
-    let mut flash = [0u8; 0];
-    give(rt, session, bytes, words, &mut flash)
-}
-
-// A frame arrives, with this reply buffer: command and payload.
-fn give_into(
-    rt: &impl Print,
-    session: Session,
-    bytes: &[u8],
-    words: &[u8],
-    flash: &mut [u8],
-    reply: &mut [u8],
-) -> Session {
-    let payload = octets::behind(bytes, 1);
-    console::say(rt, b">");
-    console::row(rt, octets::part(bytes, 0, 1), 1);
-    console::row(rt, payload, 10);
-    console::say(rt, b"  ");
-    console::say(rt, words);
-    console::say(rt, b"\n");
-    let event = Event::Frame {
-        command: octets::byte_at(bytes, 0),
-        count: payload.len(),
     };
-    take(rt, session, event, payload, flash, reply)
+    for &step in STORY {
+        bench.step(step);
+    }
 }
 
-// Milliseconds pass.
-fn wait(rt: &impl Print, session: Session, ms: u32, flash: &mut [u8]) -> Session {
-    words_only(rt, b">", PLACES, b"");
-    console::number(rt, ms as usize);
-    console::say(rt, b" ms pass\n");
-    let mut reply = [0u8; 64];
-    let next = take(rt, session, Event::Elapsed(ms), b"", flash, &mut reply);
-    show_session(rt, next);
-    next
-}
+impl<P: Print> Bench<'_, P> {
+    fn step(&mut self, step: Step) {
+        match step {
+            Step::Title(words) => self.lines.title(words),
+            Step::Open => {
+                let opened = Session::opening(self.flash);
+                self.opens(opened);
+            }
+            Step::OpenOverNothing => self.opens(Session::opening(b"")),
+            Step::Frame(lent, command, payload, words) => {
+                self.hears(lent, command, payload, words);
+            }
+            Step::Pass(ms) => self.waits(ms),
+            Step::Stands => show_session(self.lines, self.session),
+            Step::Flash(count) => self.shows_flash(count),
+        }
+    }
 
-// A step, and what it answers.
-fn take(
-    rt: &impl Print,
-    session: Session,
-    event: Event,
-    payload: &[u8],
-    flash: &mut [u8],
-    reply: &mut [u8],
-) -> Session {
-    let stepped = session.step(event, payload, flash, reply);
-    let next = stepped.session;
-    let answer = stepped.answer;
-    show_answer(rt, answer, reply);
-    next
+    fn shows_flash(&self, count: usize) {
+        show_flash(self.lines.rt, count, self.flash);
+    }
+
+    // Says how an opening went.
+    fn opens(&mut self, opened: Stepped) {
+        self.session = opened.session;
+        show_opening(self.lines, opened.answer);
+        show_session(self.lines, self.session);
+    }
+
+    // A frame arrives.
+    fn hears(&mut self, lent: Lent, command: u8, payload: &[u8], words: &str) {
+        let rt = self.lines.rt;
+        let row = Row {
+            bytes: payload,
+            places: PLACES - 1,
+        };
+        let _ = println!(rt; "> {command:02X}{row}  {words}");
+        let event = Event::Frame {
+            command,
+            count: payload.len(),
+        };
+        let session = self.session;
+        let mut reply = [0u8; 64];
+        let stepped = match lent {
+            Lent::All => session.step(event, payload, self.flash, &mut reply),
+            Lent::ShortReply => session.step(event, payload, self.flash, &mut reply[..63]),
+            Lent::SmallFlash => session.step(event, payload, &mut [0xFF; 100], &mut reply),
+            Lent::NoFlash => session.step(event, payload, &mut [], &mut reply),
+        };
+        self.answers(stepped, &reply);
+    }
+
+    // Milliseconds pass.
+    fn waits(&mut self, ms: u32) {
+        self.lines.passed(Mark::Sent, ms);
+        let mut reply = [0u8; 64];
+        let stepped = self
+            .session
+            .step(Event::Elapsed(ms), b"", self.flash, &mut reply);
+        self.answers(stepped, &reply);
+        show_session(self.lines, self.session);
+    }
+
+    // What a step leaves.
+    fn answers(&mut self, stepped: Stepped, reply: &[u8]) {
+        self.session = stepped.session;
+        show_answer(self.lines, stepped.answer, reply);
+    }
 }

@@ -1,66 +1,148 @@
 // Makes a UBF file of one block from a raw image file and the block's fields.
 #![tactic(auto)]
 
-use console::Got;
-
+use console::{FileError, Placed, Refused, Text};
 use refusals::Refusal;
-use std::env::FillError;
-use std::rt::{Env, Files};
-use ubf::{Numbers};
+use std::alloc::{AllocError, Global};
+use std::io;
+use std::rt::Files;
+use ubf::{Block, Numbers};
 
-fn main(rt: HostRuntime) {
-    if console::argument_count(&rt) != 9 {
-        usage(&rt);
-        return;
-    }
-    let mut path = console::path_room();
-    match rt.arg(1, &mut path) {
-        Ok(length) => pack_file(&rt, &rt.stderr(), octets::part(&path, 0, length)),
-        Err(_) => usage(&rt),
+// What the arguments ask for, as they were given.
+#[derive(Clone, Copy)]
+struct Wish<'a> {
+    image: &'a [u8],
+    out: &'a [u8],
+    kind: &'a [u8],
+    start: &'a [u8],
+    model: &'a [u8],
+    version: &'a [u8],
+    name: &'a [u8],
+    date: &'a [u8],
+}
+
+// Why there is no block.
+#[derive(Clone, Copy, Debug, PartialEq, Eq)]
+enum Unpacked {
+    NoNumbers,
+    Refused(Refusal),
+    NoMemory,
+}
+
+impl From<AllocError> for Unpacked {
+    fn from(_error: AllocError) -> Unpacked {
+        Unpacked::NoMemory
     }
 }
 
+impl From<Refusal> for Unpacked {
+    fn from(refusal: Refusal) -> Unpacked {
+        Unpacked::Refused(refusal)
+    }
+}
+
+fn main(rt: HostRuntime) {
+    let err = rt.stderr();
+    match console::arguments(&rt) {
+        // Where standard output fails, nothing is left to say so on.
+        Ok(words) => {
+            let _ = pack(&rt, &err, &words);
+        }
+        Err(error) => console::fail(&err, b"pack", &error),
+    }
+}
+
+fn pack(
+    rt: &(impl Files + Print + AllocGlobal),
+    err: &impl Print,
+    words: &[Vec<u8>],
+) -> io::Result<()> {
+    match words {
+        [_, image, out, kind, start, model, version, name, date] if image.len() <= console::PATH =>
+            {
+                let wish = Wish {
+                    image,
+                    out,
+                    kind,
+                    start,
+                    model,
+                    version,
+                    name,
+                    date,
+                };
+                pack_file(rt, err, wish)
+            }
+        _ => usage(rt),
+    }
+}
+
+fn usage(rt: &impl Print) -> io::Result<()> {
+    rt.println("usage: pack IMAGE OUT TYPE START MODEL VERSION NAME DATE")?;
+    rt.println("TYPE is 1, 2 or 3; START is where the image starts in the block, 208 or more")
+}
+
 // Reads the image, if it is not too large, and packs it.
-fn pack_file(rt: &(impl Env + Files + Print), err: &impl Print, path: &[u8]) {
-    let mut image = console::flash_room();
-    match console::read_whole(rt, err, path, &mut image) {
-        Got::Count(n) => pack_image(rt, err, octets::part(&image, 0, n)),
-        Got::Failed => (),
-        Got::Larger => {
-            console::text(rt, path);
-            console::say(
-                rt,
-                b": larger than 262,144 bytes, more than any image has\n",
-            );
+fn pack_file(
+    rt: &(impl Files + Print + AllocGlobal),
+    err: &impl Print,
+    wish: Wish<'_>,
+) -> io::Result<()> {
+    match console::read_file(rt, wish.image, console::FLASH) {
+        Ok(image) => pack_image(rt, err, wish, &image),
+        Err(FileError::Larger) => {
+            let name = Text(wish.image);
+            println!(rt; "{name}: larger than 262,144 bytes, more than any image has")
+        }
+        Err(why) => {
+            console::fail(err, wish.image, &why);
+            Ok(())
         }
     }
 }
 
-fn usage(rt: &impl Print) {
-    console::say(
-        rt,
-        b"usage: pack IMAGE OUT TYPE START MODEL VERSION NAME DATE\n",
-    );
-    console::say(
-        rt,
-        b"TYPE is 1, 2 or 3; START is where the image starts in the block, 208 or more\n",
-    );
+// Writes the block under its name, and says what it holds.
+fn pack_image(
+    rt: &(impl Files + Print + AllocGlobal),
+    err: &impl Print,
+    wish: Wish<'_>,
+    image: &[u8],
+) -> io::Result<()> {
+    match block_of(rt.alloc(), wish, image) {
+        Ok(block) if wish.out.len() <= console::PATH => keep(rt, err, wish.out, &block),
+        Ok(_) | Err(Unpacked::NoNumbers) => usage(rt),
+        Err(Unpacked::Refused(refusal)) => rt.println(Refused(refusal)),
+        Err(Unpacked::NoMemory) => {
+            console::fail(err, b"pack", &AllocError);
+            Ok(())
+        }
+    }
 }
 
-// Takes type and start, and works out the address that goes with the type.
-fn pack_image(rt: &(impl Env + Files + Print), err: &impl Print, image: &[u8]) {
-    let number = console::argument_number(rt, 3);
-    let start = console::argument_number(rt, 4);
-    if number > 65535 || start > 4294967295 {
-        usage(rt);
-        return;
-    }
-    let numbers = Numbers {
-        number: (number % 65536) as u16,
-        address: address_of((number % 65536) as u16),
-        start: (start % 4294967296) as u32,
-    };
-    pack_texts(rt, err, numbers, image);
+fn block_of(alloc: Global, wish: Wish<'_>, image: &[u8]) -> Result<Vec<u8>, Unpacked> {
+    let numbers = numbers_of(wish).ok_or(Unpacked::NoNumbers)?;
+    let mut block = vec![in alloc; 0u8; console::FILE]?;
+    let n = ubf::write(
+        numbers,
+        wish.model,
+        wish.version,
+        wish.name,
+        wish.date,
+        image,
+        &mut block,
+    )?;
+    block.truncate(n);
+    Ok(block)
+}
+
+// Type and start, and the address that goes with the type.
+fn numbers_of(wish: Wish<'_>) -> Option<Numbers> {
+    let number = u16::try_from(console::number_of(wish.kind)?).ok()?;
+    let start = u32::try_from(console::number_of(wish.start)?).ok()?;
+    Some(Numbers {
+        number,
+        address: address_of(number),
+        start,
+    })
 }
 
 // The address of a type; a type that is not known has none, and the writer refuses it.
@@ -71,71 +153,37 @@ fn address_of(number: u16) -> u32 {
     }
 }
 
-fn pack_texts(rt: &(impl Env + Files + Print), err: &impl Print, numbers: Numbers, image: &[u8]) {
-    let mut model = [0u8; 256];
-    let mut version = [0u8; 256];
-    let mut name = [0u8; 256];
-    let mut date = [0u8; 256];
-    let m = argument(rt, 5, &mut model);
-    let v = argument(rt, 6, &mut version);
-    let f = argument(rt, 7, &mut name);
-    let d = argument(rt, 8, &mut date);
-    let mut out = console::file_room();
-    let answer = ubf::write(
-        numbers,
-        octets::part(&model, 0, m),
-        octets::part(&version, 0, v),
-        octets::part(&name, 0, f),
-        octets::part(&date, 0, d),
-        image,
-        &mut out,
-    );
-    match answer {
-        Ok(n) => keep(rt, err, octets::part(&out, 0, n)),
-        Err(number) => {
-            console::refusal(rt, number);
-            console::say(rt, b"\n");
+fn keep(
+    rt: &(impl Files + Print + AllocGlobal),
+    err: &impl Print,
+    path: &[u8],
+    block: &[u8],
+) -> io::Result<()> {
+    match console::write_file(rt, path, block) {
+        Ok(()) => {
+            let name = Text(path);
+            let count = block.len();
+            print!(rt; "{name}: {count} bytes, ")?;
+            show(rt, ubf::read(block))
+        }
+        Err(why) => {
+            why.tell(err, path);
+            Ok(())
         }
     }
 }
 
-// An argument; one that is too long for any field stays as long as the room for it, and the writer refuses it.
-fn argument(rt: &impl Env, i: usize, text: &mut [u8]) -> usize {
-    match rt.arg(i, text) {
-        Ok(n) => n,
-        Err(FillError::TooLong) => text.len(),
-        Err(FillError::NotPresent) => 0,
-    }
-}
-
-// Writes the block under its name, and says what it holds.
-fn keep(rt: &(impl Env + Files + Print), err: &impl Print, block: &[u8]) {
-    let mut path = console::path_room();
-    match rt.arg(2, &mut path) {
-        Ok(length) => keep_as(rt, err, octets::part(&path, 0, length), block),
-        Err(_) => usage(rt),
-    }
-}
-
-fn keep_as(rt: &(impl Files + Print), err: &impl Print, path: &[u8], block: &[u8]) {
-    if console::write_whole(rt, err, path, block) {
-        console::text(rt, path);
-        console::say(rt, b": ");
-        console::number(rt, block.len());
-        console::say(rt, b" bytes, ");
-        show(rt, ubf::read(block));
-    }
-}
-
-fn show(rt: &impl Print, found: Result<Block, Refusal>) {
+fn show(rt: &impl Print, found: Result<Block, Refusal>) -> io::Result<()> {
     match found {
-        Err(number) => console::refusal(rt, number),
+        Err(refusal) => rt.println(Refused(refusal)),
         Ok(block) => {
-            let kind = block.kind;
-            console::placed(rt, kind, block.extent, block.start);
-            console::say(rt, b", check ");
-            console::word(rt, block.check);
+            let placed = Placed {
+                image: block.kind,
+                extent: block.extent,
+                start: block.start,
+            };
+            let check = block.check;
+            println!(rt; "{placed}, check 0x{check:08X}")
         }
     }
-    console::say(rt, b"\n");
 }

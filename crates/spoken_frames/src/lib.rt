@@ -5,5 +5,4 @@
 mod lines;
 mod words;
 
-pub use lines::{show_message, words_only};
-pub use words::Side;
+pub use lines::{Lines, Mark};

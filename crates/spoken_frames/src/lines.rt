@@ -1,119 +1,113 @@
 // A line a message: its bytes as on the wire, and what they say, read back by the reader.
-use crate::words::{Side, frame};
+use crate::words::{Answered, Ordered};
+use console::{Row, Text};
 use reader::{Heard, Reader};
+use std::fmt;
 
-// The reader, and how many bytes stood in frames so far.
-#[derive(Clone, Copy)]
-struct Reading {
-    reader: Reader,
-    from: usize,
+// How a line begins: the module is heard, the host sends, or a session stands.
+#[derive(Clone, Copy, Debug, PartialEq, Eq)]
+pub enum Mark {
+    Heard,
+    Sent,
+    Session,
 }
 
-// The front of a line with no bytes in it.
-pub fn words_only(rt: &impl Print, mark: &[u8], places: usize, words: &[u8]) {
-    console::say(rt, mark);
-    console::row(rt, b"", places);
-    console::say(rt, b"  ");
-    console::say(rt, words);
-}
-
-// The front of a line with bytes in it.
-fn show_mark(rt: &impl Print, side: Side) {
-    match side {
-        Side::Heard => console::say(rt, b"<"),
-        Side::Sent => console::say(rt, b">"),
+impl fmt::Display for Mark {
+    fn fmt<W: fmt::Write>(&self, f: &mut fmt::Formatter<W>) -> fmt::Result {
+        f.write_str(match self {
+            Mark::Heard => "<",
+            Mark::Sent => ">",
+            Mark::Session => "=",
+        })
     }
 }
 
-// A line a frame. Bytes behind the last one that are no line of text would show.
-pub fn show_message(rt: &impl Print, side: Side, places: usize, bytes: &[u8]) {
-    let mut reading = Reading {
-        reader: Reader::new(),
-        from: 0,
-    };
-    let mut i = 0;
-    while i < bytes.len() {
-        let byte = bytes[i];
-        i += 1;
-        reading = hear(rt, side, places, reading, byte, octets::part(bytes, 0, i));
-    }
-    show_rest(rt, side, places, octets::behind(bytes, reading.from));
+// Where the lines go, and how many bytes each shows at most.
+#[derive_where(Clone, Copy)]
+pub struct Lines<'a, P: Print> {
+    pub rt: &'a P,
+    pub places: usize,
 }
 
-// Takes one byte, and prints the frame that ends with it, if one does.
-fn hear(
-    rt: &impl Print,
-    side: Side,
-    places: usize,
-    reading: Reading,
-    byte: u8,
-    so_far: &[u8],
-) -> Reading {
-    let before = reading.reader;
-    let stepped = before.step(byte);
-    let reader = stepped.reader;
-    let heard = stepped.heard;
-    match heard {
-        Heard::Nothing => Reading {
-            reader,
-            from: reading.from,
-        },
-        Heard::Dropped => Reading {
-            reader,
-            from: reading.from,
-        },
-        Heard::Frame { command, count } => {
-            let store = reader.store;
-            show_mark(rt, side);
-            show_bytes(rt, places, octets::behind(so_far, reading.from));
-            frame(rt, side, command, reader::payload(&store, count));
-            console::say(rt, b"\n");
-            Reading {
-                reader,
-                from: so_far.len(),
+impl<P: Print> Lines<'_, P> {
+    // The head of a case.
+    pub fn title(self, words: &str) {
+        let _ = println!(self.rt; "\n{words}");
+    }
+
+    // The front of a line with no bytes in it.
+    pub fn front(self, mark: Mark) {
+        let bytes = b"".as_slice();
+        let places = self.places;
+        let _ = print!(self.rt; "{mark}{}  ", Row { bytes, places });
+    }
+
+    // A line with no bytes in it.
+    pub fn words_only(self, mark: Mark, words: &(impl fmt::Display + Drop)) {
+        self.front(mark);
+        let _ = println!(self.rt; "{words}");
+    }
+
+    // Milliseconds pass for the one who is marked.
+    pub fn passed(self, mark: Mark, ms: u32) {
+        self.front(mark);
+        let _ = println!(self.rt; "{ms} ms pass");
+    }
+
+    // A line a frame. Bytes behind the last one that are no line of text would show.
+    pub fn message(self, mark: Mark, bytes: &[u8]) {
+        let mut reader = Reader::new();
+        let mut from = 0;
+        for (i, &byte) in bytes.iter().enumerate() {
+            let stepped = reader.step(byte);
+            reader = stepped.reader;
+            if let Heard::Frame { command, count } = stepped.heard {
+                let frame = &bytes[from..i + 1];
+                self.frame(mark, frame, command, reader::payload(&reader.store, count));
+                from = i + 1;
             }
         }
+        self.rest(mark, &bytes[from..]);
     }
-}
 
-// What is left behind the last frame.
-fn show_rest(rt: &impl Print, side: Side, places: usize, rest: &[u8]) {
-    if rest.len() != 0 {
-        show_mark(rt, side);
-        show_bytes(rt, places, rest);
-        text(rt, rest);
-        console::say(rt, b"\n");
+    // A frame: a command has a payload of its own in each direction.
+    fn frame(self, mark: Mark, bytes: &[u8], command: u8, payload: &[u8]) {
+        self.bytes(mark, bytes);
+        let _ = match mark {
+            Mark::Heard => println!(self.rt; "{}", Answered { command, payload }),
+            _ => println!(self.rt; "{}", Ordered { command, payload }),
+        };
     }
-}
 
-// All of a short message; of a long one its front and its end, if there are places for both.
-fn show_bytes(rt: &impl Print, places: usize, bytes: &[u8]) {
-    let n = bytes.len();
-    if n <= places {
-        console::row(rt, bytes, places);
-    } else if places < 4 {
-        console::row(rt, bytes, places);
-    } else {
-        let end = octets::behind(bytes, n - 3);
-        console::row(rt, octets::part(bytes, 0, places - 4), places - 4);
-        console::say(rt, b" ..");
-        console::row(rt, end, 3);
+    // What is left behind the last frame. A line of text ends with CR LF.
+    fn rest(self, mark: Mark, bytes: &[u8]) {
+        if bytes.is_empty() {
+            return;
+        }
+        self.bytes(mark, bytes);
+        if let Some(text) = bytes.strip_suffix(b"\r\n") {
+            let _ = println!(self.rt; "text {}, CR LF", Text(text));
+        } else {
+            let _ = println!(self.rt; "NO FRAME");
+        }
     }
-    console::say(rt, b"  ");
-}
 
-// A line of text ends with CR LF.
-fn text(rt: &impl Print, bytes: &[u8]) {
-    let n = bytes.len();
-    if n < 2 {
-        console::say(rt, b"NO FRAME");
-        return;
+    // All of a short message; of a long one its front and its end, if there are places for both.
+    fn bytes(self, mark: Mark, bytes: &[u8]) {
+        let n = bytes.len();
+        let _ = self.rt.print(mark);
+        if n <= self.places || self.places < 4 {
+            self.row(bytes, self.places);
+        } else {
+            let (front, end) = (&bytes[..self.places - 4], &bytes[n - 3..]);
+            self.row(front, self.places - 4);
+            let _ = print!(self.rt; " ..");
+            self.row(end, 3);
+        }
+        let _ = print!(self.rt; "  ");
     }
-    if octets::same(octets::behind(bytes, n - 2), b"\r\n") {
-        console::say(rt, b"text ");
-        console::text(rt, octets::part(bytes, 0, n - 2));
-        console::say(rt, b", CR LF");
-    } else {
-        console::say(rt, b"NO FRAME");
+
+    fn row(self, bytes: &[u8], places: usize) {
+        let _ = self.rt.print(Row { bytes, places });
     }
 }

@@ -2,75 +2,79 @@
 // they print is tested.
 #![tactic(auto)]
 
+use console::Refused;
 use module::{Answer, Phase, Session};
-use spoken_frames::{Side, show_message, words_only};
+use refusals::Refusal;
+use spoken_frames::{Lines, Mark};
+use std::fmt;
 
 // The most bytes that a line shows; that is a command and ten bytes of payload.
 pub const PLACES: usize = 11;
 
 // The frames that are sent, or that there are none, or the refusal.
-pub fn show_answer(rt: &impl Print, answer: Answer, reply: &[u8]) {
+pub fn show_answer<P: Print>(lines: Lines<P>, answer: Answer, reply: &[u8]) {
     match answer {
-        Answer::Nothing => words_only(rt, b"<", PLACES, b"no answer\n"),
-        Answer::Sent(n) => show_message(rt, Side::Heard, PLACES, octets::part(reply, 0, n)),
-        Answer::Refused(number) => show_refusal(rt, number),
+        Answer::Nothing => lines.words_only(Mark::Heard, &"no answer"),
+        Answer::Sent(n) => lines.message(Mark::Heard, octets::part(reply, 0, n)),
+        Answer::Refused(refusal) => show_refusal(lines, refusal),
     }
 }
 
 // An opening sends nothing.
-pub fn show_opening(rt: &impl Print, answer: Answer) {
+pub fn show_opening<P: Print>(lines: Lines<P>, answer: Answer) {
     match answer {
-        Answer::Nothing => words_only(rt, b"<", PLACES, b"opened\n"),
-        Answer::Sent(_) => words_only(rt, b"<", PLACES, b"UNKNOWN\n"),
-        Answer::Refused(number) => show_refusal(rt, number),
+        Answer::Nothing => lines.words_only(Mark::Heard, &"opened"),
+        Answer::Sent(_) => lines.words_only(Mark::Heard, &"UNKNOWN"),
+        Answer::Refused(refusal) => show_refusal(lines, refusal),
     }
 }
 
 // A refusal's number and words.
-fn show_refusal(rt: &impl Print, number: u8) {
-    words_only(rt, b"<", PLACES, b"");
-    console::refusal(rt, number);
-    console::say(rt, b"\n");
+fn show_refusal<P: Print>(lines: Lines<P>, refusal: Refusal) {
+    lines.words_only(Mark::Heard, &Refused(refusal));
 }
 
 // Where a session stands, and its idle sum while it takes events.
-pub fn show_session(rt: &impl Print, session: Session) {
-    words_only(rt, b"=", PLACES, b"");
-    let phase = session.phase;
-    show_phase(rt, phase);
-    if session.is_open() {
-        console::say(rt, b", idle ");
-        console::number(rt, session.idle as usize);
-        console::say(rt, b" ms");
+pub fn show_session<P: Print>(lines: Lines<P>, session: Session) {
+    lines.words_only(Mark::Session, &Standing(session));
+}
+
+#[derive(Clone, Copy)]
+struct Standing(Session);
+
+impl fmt::Display for Standing {
+    fn fmt<W: fmt::Write>(&self, f: &mut fmt::Formatter<W>) -> fmt::Result {
+        let session = self.0;
+        write!(f, "{}", HowFar(session.phase))?;
+        if session.is_open() {
+            write!(f, ", idle {} ms", session.idle)?;
+        }
+        Ok(())
     }
-    console::say(rt, b"\n");
 }
 
 // How far a session is.
-fn show_phase(rt: &impl Print, phase: Phase) {
-    match phase {
-        Phase::Closed => console::say(rt, b"closed"),
-        Phase::Ready => console::say(rt, b"open: ready, no transfer"),
-        Phase::Begun(transfer) => {
-            console::say(rt, b"open: wants packet 1 of ");
-            console::number(rt, transfer.extent);
-            console::say(rt, b" bytes");
-        }
-        Phase::Loading {
-            number,
-            written,
-            ..
-        } => {
-            console::say(rt, b"open: loading, packet ");
-            console::number(rt, number);
-            console::say(rt, b" accepted, ");
-            console::number(rt, written);
-            console::say(rt, b" bytes written");
-        }
-        Phase::Done { written, .. } => {
-            console::say(rt, b"open: done, ");
-            console::number(rt, written);
-            console::say(rt, b" bytes written");
+#[derive(Clone, Copy)]
+struct HowFar(Phase);
+
+impl fmt::Display for HowFar {
+    fn fmt<W: fmt::Write>(&self, f: &mut fmt::Formatter<W>) -> fmt::Result {
+        match self.0 {
+            Phase::Closed => f.write_str("closed"),
+            Phase::Ready => f.write_str("open: ready, no transfer"),
+            Phase::Begun(transfer) => {
+                let extent = transfer.extent;
+                write!(f, "open: wants packet 1 of {extent} bytes")
+            }
+            Phase::Loading {
+                number,
+                written,
+                ..
+            } => write!(
+                f,
+                "open: loading, packet {number} accepted, {written} bytes written"
+            ),
+            Phase::Done { written, .. } => write!(f, "open: done, {written} bytes written"),
         }
     }
 }

@@ -1,9 +1,0 @@
--- `console::files::read_full` is safe and ends: each read that brings bytes leaves less room.
-use Rattle.std.proofs.Common.{length, ◌-◌, ◌≤◌}
-use Rattle.console.proofs.files.read_full.Given as goal
-
-abbrev pub invariant-loop-done : goal.invariant-loop-done
-invariant-loop-done g l = l.done ≤ length l.buffer
-
-abbrev pub decreases-loop-done : goal.decreases-loop-done
-decreases-loop-done g l = length l.buffer - l.done

@@ -1,6 +1,0 @@
--- `console::text` is safe and ends: the index stays below the length.
-use Rattle.std.proofs.Common.{length, ◌-◌}
-use Rattle.console.proofs.show.text.Given as goal
-
-abbrev pub decreases-loop-i : goal.decreases-loop-i
-decreases-loop-i g l = length l.field - l.i
