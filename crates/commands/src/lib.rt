@@ -55,7 +55,12 @@ pub fn write_parameters(kind: Kind, extent: usize, out: &mut [u8]) -> Result<usi
 }
 
 // Writes 0x05: Total, PkNo, PkSize and the piece, which is a part of the image.
-pub fn write_packet(image: &[u8], size: usize, number: usize, out: &mut [u8]) -> Result<usize, Refusal>
+pub fn write_packet(
+    image: &[u8],
+    size: usize,
+    number: usize,
+    out: &mut [u8],
+) -> Result<usize, Refusal>
     ensures { record { answer = result; output = out.new }
         ≡ write_of (packet_frame image.now size number) out.old }
 {
