@@ -8,6 +8,8 @@ ghost use Rattle.commands.specs.Commands.{rate_frame, parameters_frame, packet_f
 use kinds::Kind;
 use refusals::Refusal;
 
+// Commands and acknowledgements are bytes of the wire, of which any may come and each is answered (`decide_of`, `frame_move`): so they are
+// numbers and no enum.
 pub const RATE: u8 = 0x01;
 
 pub const PARAMETERS: u8 = 0x02;

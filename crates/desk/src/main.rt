@@ -11,7 +11,8 @@ use std::rt::Files;
 use ubf::{Block, Nth};
 use verdict::Judged;
 
-// What a file is loaded into: the flash, the module before it and the noise on its line; what is said goes to rt.
+// What a file is loaded into: the flash, the module before it and the noise on its line; what is said goes to rt. Two lifetimes: with one the
+// borrow checker does not cover a load.
 #[derive(Drop)]
 struct Desk<'a, 'b, P: Print> {
     rt: &'a P,

@@ -80,6 +80,7 @@ impl Line<'_> {
             return None;
         }
         self.lane.at = at + 1;
+        // By index: with octets::byte_at the clause same_bytes did not close.
         Some(if at < self.bytes.len() {
             self.bytes[at]
         } else {

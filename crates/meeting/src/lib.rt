@@ -43,6 +43,7 @@ pub fn load(post: &mut Post, noise: &mut Noise, kind: Kind, image: &[u8], flash:
     let mut back_room = [0u8; 8192];
     let mut message = [0u8; 2080];
     let opened = opening(kind, image, &mut message);
+    // Made first, since the borrow checker does not cover two lines inside the meeting's own expression.
     let out = Line {
         lane: Lane::empty(),
         bytes: &mut out_room,

@@ -13,7 +13,7 @@ pub const ADDRESS_AT: usize = 6;
 // The three numbers of a packet stand before its data.
 pub const PACKET_HEAD: usize = 6;
 
-// The State of the notice: all of the length was written, or not.
+// The State of the notice: all of the length was written, or not. It is a byte of the wire (commands/Commands), so a number.
 pub const STATE_WHOLE: u8 = 0x00;
 
 pub const STATE_SHORT: u8 = 0x01;

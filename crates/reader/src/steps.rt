@@ -6,7 +6,8 @@ ghost use Rattle.reader.specs.Reader.{fresh, known_of, closed_of, answers, moved
 use crate::moves::{Move, move_of};
 use wire::CONTENT_MOST;
 
-// The content so far stands in the first count bytes of the store.
+// The content so far stands in the first count bytes of the store. Count and flags stay beside it, and the store an array: C keeps a reader so
+// (kept_reader/Kept, `bytes_of`), and bytes behind the count are kept too (`fresh`, `step_of`).
 #[derive(Clone, Copy)]
 pub struct Reader {
     pub store: [u8; CONTENT_MOST],

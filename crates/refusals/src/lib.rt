@@ -120,7 +120,8 @@ impl Error for Refusal {}
 
 impl Error for UnknownNumber {}
 
-// Puts the words of a number at the front of the output, as much of them as fits, and answers how many bytes that is.
+// Puts the words of a number at the front of the output, as much of them as fits, and answers how many bytes that is. C asks by any number
+// (zrn_words), so it is no `Refusal`.
 pub fn words(number: u8, out: &mut [u8]) -> usize
     ensures said { record { count = result; output = out.new } ≡ say_of (words_of number) out.old }
     ensures within { Front result out.new }
