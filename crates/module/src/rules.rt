@@ -90,23 +90,22 @@ fn unmoved_say(phase: Phase, say: Say) -> Decision
 fn rate(phase: Phase, payload: &[u8]) -> Decision
     ensures { result ≡ rate_decision phase payload.now }
 {
-    if payload.len() != 1 {
-        return unmoved_say(
+    match *payload {
+        [asked] => unmoved_say(
+            phase,
+            Say::Rate {
+                rate: asked,
+                ack: rate_ack(asked),
+            },
+        ),
+        _ => unmoved_say(
             phase,
             Say::Rate {
                 rate: 0,
                 ack: commands::NOT_UNDERSTOOD,
             },
-        );
+        ),
     }
-    let asked = octets::byte_at(payload, 0);
-    unmoved_say(
-        phase,
-        Say::Rate {
-            rate: asked,
-            ack: rate_ack(asked),
-        },
-    )
 }
 
 #[tactic(auto, unfolding(module_model::specs::Rules::rate_ack))]
@@ -177,7 +176,7 @@ fn parameters_of(phase: Phase, kind: Kind, payload: &[u8], flash: usize) -> Deci
 fn restart(phase: Phase, payload: &[u8]) -> Decision
     ensures { result ≡ restart_decision phase payload.now }
 {
-    if payload.len() != 0 {
+    if !payload.is_empty() {
         return unmoved_say(
             phase,
             Say::Restart {
