@@ -22,6 +22,7 @@ use ubf_model::{
 };
 
 // Writes a block into the output: type, address and start of the image, four texts without their zeros, the image.
+// The contract of this public function names each text, so each stays a parameter of its own.
 #[tactic(auto, unfolding(ubf_model::specs::Pack::pack_of))]
 pub fn write(
     numbers: Numbers,
@@ -69,20 +70,14 @@ pub fn write(
 fn type_pairs(number: u16, address: u32) -> bool
     ensures { result ≡ pairs (kind_of number) address }
 {
-    match kinds::kind_of(number) {
-        Some(kind) => address == kinds::base_of(kind),
-        None => false,
-    }
+    kinds::kind_of(number).is_some_and(|kind| address == kinds::base_of(kind))
 }
 
 // Whether a type is known and may have an image of this length.
 fn image_fits(number: u16, extent: usize) -> bool
     ensures { result ≡ fits (kind_of number) extent }
 {
-    match kinds::kind_of(number) {
-        Some(kind) => kinds::fits_file(kind, extent),
-        None => false,
-    }
+    kinds::kind_of(number).is_some_and(|kind| kinds::fits_file(kind, extent))
 }
 
 // Every field of the header at its offset.
