@@ -2,15 +2,14 @@
 ghost use Rattle.std.specs.Prelude.{◌≡◌, ◌≤◌, true, length};
 ghost use Rattle.module.specs.Session.{opening_of, stepped, takes};
 ghost use Rattle.module_model.specs.Phases.{openable, alive, fits, cuts, loading_arises, done_arises, held};
-ghost use Rattle.module.specs.Step.{left, smallest_reply, frame_step, time_step, step_of};
+ghost use Rattle.module.specs.Step.{left, frame_step, time_step, step_of};
 
 use crate::open::Open;
-use crate::replies::send;
+use crate::replies::{Reply, send};
 use crate::rules::store;
 use commands::{LARGEST_PACKET, LARGEST_TOTAL};
 use module_model::{
-    Answer, CLOSING_IDLE, Event, LARGEST_FLASH, LONGEST_IDLE, Phase, Pieces, SMALLEST_REPLY,
-    Transfer,
+    Answer, CLOSING_IDLE, Event, LARGEST_FLASH, LONGEST_IDLE, Phase, Pieces, Transfer,
 };
 use refusals::Refusal;
 
@@ -72,9 +71,24 @@ impl Session {
         ensures { left result flash.new reply.new
             ≡ step_of self event payload.now flash.old reply.old }
     {
-        if reply.len() < SMALLEST_REPLY {
-            return self.answers(Answer::Refused(Refusal::NoRoom));
+        match reply.first_chunk_mut() {
+            Some(front) => self.step_with_room(event, payload, flash, front),
+            None => self.answers(Answer::Refused(Refusal::NoRoom)),
         }
+    }
+
+    // All that an event is answered with stands in the front of the reply buffer.
+    #[tactic(auto, unfolding(crate::specs::Step::step_of, octets::specs::Octets::part_of))]
+    fn step_with_room(
+        self,
+        event: Event,
+        payload: &[u8],
+        flash: &mut [u8],
+        reply: &mut Reply,
+    ) -> Stepped
+        ensures { left result flash.new reply.new
+            ≡ step_of self event payload.now flash.old reply.old }
+    {
         if flash.len() != self.flash {
             return self.answers(Answer::Refused(Refusal::WrongLength));
         }
@@ -103,8 +117,7 @@ impl Session {
 impl Open {
     // A frame comes: the rules decide, then flash and reply are written. The idle sum starts anew.
     #[tactic(auto, unfolding(crate::specs::Step::frame_step))]
-    fn frame(self, command: u8, payload: &[u8], flash: &mut [u8], reply: &mut [u8]) -> Stepped
-        requires { smallest_reply ≤ length reply.old }
+    fn frame(self, command: u8, payload: &[u8], flash: &mut [u8], reply: &mut Reply) -> Stepped
         ensures { left result flash.new reply.new
             ≡ frame_step self.session command payload.now flash.old reply.old }
     {
