@@ -1,6 +1,7 @@
 // A module on a line: the reader of what arrives, and the session.
 ghost use Rattle.std.specs.Prelude.{◌≡◌};
-ghost use Rattle.board_end.specs.Board.{board_of, board_left, unheard_step, frame_heard, board_hears, board_waits};
+ghost use Rattle.board_end.specs.Board.{board_of, board_left, unheard_step, frame_heard, board_hears, board_waits, beside};
+ghost use Rattle.module.specs.Step.{step_of};
 
 use module::{Answer, Event, Session};
 use reader::{Heard, Reader};
@@ -26,93 +27,71 @@ impl Board {
     {
         Board {
             reader: Reader::new(),
-            session: session,
+            session,
         }
     }
 
     // Takes one byte from the line. A frame that it completes is given to the session.
+    #[tactic(auto, unfolding(crate::specs::Board::board_hears))]
     pub fn hear(self, byte: u8, flash: &mut [u8], reply: &mut [u8]) -> BoardStep
         ensures { board_left result flash.new reply.new
             ≡ board_hears self byte flash.old reply.old }
     {
-        let reader = self.reader;
-        let session = self.session;
-        let read = reader.step(byte);
-        let next = read.reader;
-        let heard = read.heard;
-        match heard {
-            Heard::Nothing => unheard(next, session, false),
-            Heard::Frame { command, count } => frame(next, session, command, count, flash, reply),
-            Heard::Dropped => unheard(next, session, true),
+        let read = self.reader.step(byte);
+        let next = Board {
+            reader: read.reader,
+            ..self
+        };
+        match read.heard {
+            Heard::Nothing => next.unheard(false),
+            Heard::Frame { command, count } => next.frame(command, count, flash, reply),
+            Heard::Dropped => next.unheard(true),
         }
     }
 
     // Milliseconds pass.
+    #[tactic(auto, unfolding(crate::specs::Board::board_waits))]
     pub fn wait(self, ms: u32, flash: &mut [u8], reply: &mut [u8]) -> BoardStep
         ensures { board_left result flash.new reply.new
             ≡ board_waits self ms flash.old reply.old }
     {
-        let reader = self.reader;
-        let session = self.session;
-        let next = lent::lend(session, Event::Elapsed(ms), b"", flash, reply);
-        let after = next.session;
-        let answer = next.answer;
+        self.takes(Event::Elapsed(ms), b"", flash, reply)
+    }
+
+    // A byte that completes no frame leaves the session as it was.
+    fn unheard(self, dropped: bool) -> BoardStep
+        ensures { result ≡ unheard_step self.reader self.session dropped }
+    {
         BoardStep {
-            board: Board {
-                reader: reader,
-                session: after,
-            },
-            answer: answer,
-            dropped: false,
+            board: self,
+            answer: Answer::Nothing,
+            dropped,
         }
     }
-}
 
-// A byte that completes no frame leaves the session as it was.
-fn unheard(reader: Reader, session: Session, dropped: bool) -> BoardStep
-    ensures { result ≡ unheard_step reader session dropped }
-{
-    BoardStep {
-        board: Board {
-            reader: reader,
-            session: session,
-        },
-        answer: Answer::Nothing,
-        dropped: dropped,
+    // The session takes a frame that the reader has handed out; its payload stands in the reader's store.
+    #[tactic(auto, unfolding(crate::specs::Board::frame_heard))]
+    fn frame(self, command: u8, count: usize, flash: &mut [u8], reply: &mut [u8]) -> BoardStep
+        ensures { board_left result flash.new reply.new
+            ≡ frame_heard self.reader self.session command count flash.old reply.old }
+    {
+        let payload = reader::payload(&self.reader.store, count);
+        self.takes(Event::Frame { command, count }, payload, flash, reply)
     }
-}
 
-// The session takes a frame that the reader has handed out; its payload stands in the reader's store.
-fn frame(
-    reader: Reader,
-    session: Session,
-    command: u8,
-    count: usize,
-    flash: &mut [u8],
-    reply: &mut [u8],
-) -> BoardStep
-    ensures { board_left result flash.new reply.new
-        ≡ frame_heard reader session command count flash.old reply.old }
-{
-    let store = reader.store;
-    let next = lent::lend(
-        session,
-        Event::Frame {
-            command: command,
-            count: count,
-        },
-        reader::payload(&store, count),
-        flash,
-        reply,
-    );
-    let after = next.session;
-    let answer = next.answer;
-    BoardStep {
-        board: Board {
-            reader: reader,
-            session: after,
-        },
-        answer: answer,
-        dropped: false,
+    // The session takes an event, beside the reader.
+    fn takes(self, event: Event, payload: &[u8], flash: &mut [u8], reply: &mut [u8]) -> BoardStep
+        ensures { board_left result flash.new reply.new
+            ≡ beside self.reader (step_of self.session event payload.now flash.old reply.old) }
+    {
+        let next = lent::lend(self.session, event, payload, flash, reply);
+        BoardStep {
+            board: Board {
+                session: next.session,
+                ..self
+            },
+            answer: next.answer,
+            dropped: false,
+        }
     }
 }

@@ -18,15 +18,14 @@ pub fn step(
     ensures { left (stepped session.new result) flash.new reply.new
         ≡ step_of session.old event payload.now flash.old reply.old }
 {
-    let s = *session;
-    let r = s.step(event, payload, flash, reply);
-    *session = r.session;
-    r.answer
+    let next = session.step(event, payload, flash, reply);
+    *session = next.session;
+    next.answer
 }
 
 // The same by value, through a session that is lent for the call.
 pub fn lend(
-    session: Session,
+    mut session: Session,
     event: Event,
     payload: &[u8],
     flash: &mut [u8],
@@ -35,10 +34,6 @@ pub fn lend(
     ensures { left result flash.new reply.new
         ≡ step_of session event payload.now flash.old reply.old }
 {
-    let mut kept = session;
-    let answer = step(&mut kept, event, payload, flash, reply);
-    Stepped {
-        session: kept,
-        answer: answer,
-    }
+    let answer = step(&mut session, event, payload, flash, reply);
+    Stepped { session, answer }
 }

@@ -2,6 +2,8 @@
 // answers with wire forms. Success is said only when every packet stands in the flash.
 #![tactic(auto)]
 
+mod open;
+mod packets;
 mod replies;
 mod rules;
 mod session;

@@ -4,15 +4,17 @@ ghost use Rattle.octets.specs.Octets.{over};
 ghost use Rattle.wire.specs.Frame.{frame};
 ghost use Rattle.commands.specs.Commands.{packet_reply};
 ghost use Rattle.module_model.specs.Rules.{frames_of};
-ghost use Rattle.module.specs.Step.{smallest_reply, wires_of, answer_of};
+ghost use Rattle.module.specs.Step.{wires_of, answer_of};
 ghost use Rattle.module.specs.StepLaws.{short_payload, short_wire, Wrote};
 
-use module_model::{Answer, Say};
+use module_model::{Answer, SMALLEST_REPLY, Say};
 use refusals::Refusal;
 
+// Room for all that is said at once.
+pub(crate) type Reply = [u8; SMALLEST_REPLY];
+
 // Writes what is to be said at the front of the reply buffer.
-pub(crate) fn send(say: Say, reply: &mut [u8]) -> Answer
-    requires { smallest_reply ≤ length reply.old }
+pub(crate) fn send(say: Say, reply: &mut Reply) -> Answer
     ensures { (result ≡ answer_of (frames_of say)) × (reply.new ≡ over (wires_of (frames_of say)) reply.old) }
 {
     match say {
@@ -30,8 +32,7 @@ pub(crate) fn send(say: Say, reply: &mut [u8]) -> Answer
 }
 
 // The acknowledgement of a packet.
-fn packet(number: usize, ack: u8, reply: &mut [u8]) -> usize
-    requires { smallest_reply ≤ length reply.old }
+fn packet(number: usize, ack: u8, reply: &mut Reply) -> usize
     ensures { Wrote (packet_reply number ack) result reply.old reply.new }
 {
     one(
@@ -42,8 +43,7 @@ fn packet(number: usize, ack: u8, reply: &mut [u8]) -> usize
 }
 
 // The acknowledgement of the last packet, and the notice behind it.
-fn last(number: usize, state: u8, reply: &mut [u8]) -> usize
-    requires { smallest_reply ≤ length reply.old }
+fn last(number: usize, state: u8, reply: &mut Reply) -> usize
     ensures { (result ≡ length (wires_of (frames_of (Say.Last number state))))
         × (reply.new ≡ over (wires_of (frames_of (Say.Last number state))) reply.old) }
 {
@@ -56,8 +56,7 @@ fn one(command: u8, payload: &[u8], reply: &mut [u8]) -> usize
     requires { (length payload.now ≤ short_payload) × (short_wire ≤ length reply.old) }
     ensures { Wrote (frame command payload.now) result reply.old reply.new }
 {
-    let written = wire::write(command, payload, reply);
-    match written {
+    match wire::write(command, payload, reply) {
         Ok(n) => n,
         Err(_) => 0,
     }

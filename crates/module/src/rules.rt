@@ -1,13 +1,14 @@
 // The rules of the four commands. All of them decide and none writes: what to say, what to put where, and the phase after it.
-ghost use Rattle.std.specs.Prelude.{◌≡◌, ◌+◌, ◌≤◌, ◌<◌};
-ghost use Rattle.commands.specs.Commands.{largest_packet, largest_total};
+ghost use Rattle.std.specs.Prelude.{◌≡◌};
 ghost use Rattle.module_model.specs.Phases.{total_of};
 ghost use Rattle.module_model.specs.Rules.{unmoved, rate_ack, rate_decision, parameters_decision, kind_decision, restart_decision};
 ghost use Rattle.module_model.specs.Rules.{numbers_in, well_formed, not_taken, cuts_into, place_of, is_packet, is_repeat, phase_at};
 ghost use Rattle.module_model.specs.Rules.{state_of, say_of, acknowledge_of, taken, repeat_decision, first_decision, loading_decision};
 ghost use Rattle.module_model.specs.Rules.{done_decision, phase_decision, packet_decision, decide_of, put_of};
-ghost use Rattle.module_model.specs.Bounds.{Bounded, BoundedPhase};
+ghost use Rattle.module_model.specs.Bounds.{Bounded};
 
+use crate::open::Open;
+use crate::packets::{Packet, Place};
 use commands::LARGEST_PACKET;
 use kinds::Kind;
 use module_model::{
@@ -15,17 +16,52 @@ use module_model::{
     STATE_SHORT, STATE_WHOLE, Say, TYPE_AT, Transfer,
 };
 
-// What a frame does to an open session.
-pub(crate) fn decide(phase: Phase, command: u8, payload: &[u8], flash: &[u8]) -> Decision
-    requires { BoundedPhase phase }
-    ensures { result ≡ decide_of phase command payload.now flash.now }
-{
-    match command {
-        commands::RATE => rate(phase, payload),
-        commands::PARAMETERS => parameters(phase, payload, flash.len()),
-        commands::PACKET => packet(phase, payload, flash),
-        commands::RESTART => restart(phase, payload),
-        _ => unmoved_say(phase, Say::Nothing),
+impl Open {
+    // What a frame does to the session.
+    #[tactic(auto, unfolding(module_model::specs::Rules::decide_of))]
+    pub(crate) fn decide(self, command: u8, payload: &[u8], flash: &[u8]) -> Decision
+        ensures { result ≡ decide_of self.session.phase command payload.now flash.now }
+    {
+        let phase = self.session.phase;
+        match command {
+            commands::RATE => rate(phase, payload),
+            commands::PARAMETERS => parameters(phase, payload, flash.len()),
+            commands::PACKET => self.packet(payload, flash),
+            commands::RESTART => restart(phase, payload),
+            _ => unmoved_say(phase, Say::Nothing),
+        }
+    }
+
+    // 0x05: the expected packet, a repeat of the one just accepted, or refused with PkNo 0.
+    #[tactic(auto, unfolding(module_model::specs::Rules::packet_decision))]
+    fn packet(self, payload: &[u8], flash: &[u8]) -> Decision
+        ensures { result ≡ packet_decision self.session.phase payload.now flash.now }
+    {
+        let numbers = numbers_in(payload);
+        if !well_formed(payload.len(), numbers.size) {
+            return packet_refused(self.session.phase);
+        }
+        let packet = Packet {
+            numbers,
+            bytes: octets::behind(payload, PACKET_HEAD),
+        };
+        self.packet_at(packet, flash)
+    }
+
+    fn packet_at(self, packet: Packet, flash: &[u8]) -> Decision
+        ensures { result ≡ phase_decision self.session.phase packet.entry.numbers packet.entry.bytes.now flash.now }
+    {
+        let phase = self.session.phase;
+        match phase {
+            Phase::Closed | Phase::Ready => packet_refused(phase),
+            Phase::Begun(transfer) => first(transfer, packet),
+            Phase::Loading {
+                pieces,
+                number,
+                written,
+            } => next(pieces, number, written, packet, flash),
+            Phase::Done { pieces, written } => last(pieces, written, packet, flash),
+        }
     }
 }
 
@@ -33,9 +69,8 @@ pub(crate) fn decide(phase: Phase, command: u8, payload: &[u8], flash: &[u8]) ->
 pub(crate) fn store(place: Option<usize>, payload: &[u8], flash: &mut [u8])
     ensures { flash.new ≡ put_of place payload.now flash.old }
 {
-    match place {
-        None => {}
-        Some(at) => octets::copy(octets::behind(payload, PACKET_HEAD), flash, at),
+    if let Some(at) = place {
+        octets::copy(octets::behind(payload, PACKET_HEAD), flash, at);
     }
 }
 
@@ -44,49 +79,47 @@ fn unmoved_say(phase: Phase, say: Say) -> Decision
     ensures { result ≡ unmoved phase say }
 {
     Decision {
-        phase: phase,
-        say: say,
+        phase,
+        say,
         put: None,
     }
 }
 
 // 0x01: the rate asked for, and whether it is one of five.
+#[tactic(auto, unfolding(module_model::specs::Rules::rate_decision))]
 fn rate(phase: Phase, payload: &[u8]) -> Decision
     ensures { result ≡ rate_decision phase payload.now }
 {
-    if payload.len() != 1 {
-        return unmoved_say(
+    match *payload {
+        [asked] => unmoved_say(
+            phase,
+            Say::Rate {
+                rate: asked,
+                ack: rate_ack(asked),
+            },
+        ),
+        _ => unmoved_say(
             phase,
             Say::Rate {
                 rate: 0,
                 ack: commands::NOT_UNDERSTOOD,
             },
-        );
+        ),
     }
-    let asked = octets::byte_at(payload, 0);
-    unmoved_say(
-        phase,
-        Say::Rate {
-            rate: asked,
-            ack: rate_ack(asked),
-        },
-    )
 }
 
+#[tactic(auto, unfolding(module_model::specs::Rules::rate_ack))]
 fn rate_ack(rate: u8) -> u8
     ensures { result ≡ rate_ack rate }
 {
-    if rate < 1 {
-        return commands::WRONG_FIRST;
-    }
-    if rate <= 5 {
-        commands::ACCEPTED
-    } else {
-        commands::WRONG_FIRST
+    match rate {
+        1..=5 => commands::ACCEPTED,
+        _ => commands::WRONG_FIRST,
     }
 }
 
 // 0x02: payload length, type, address, length, in this order.
+#[tactic(auto, unfolding(module_model::specs::Rules::parameters_decision))]
 fn parameters(phase: Phase, payload: &[u8], flash: usize) -> Decision
     ensures { result ≡ parameters_decision phase payload.now flash }
 {
@@ -98,8 +131,7 @@ fn parameters(phase: Phase, payload: &[u8], flash: usize) -> Decision
             },
         );
     }
-    let known = kinds::kind_of(octets::two_at(payload, TYPE_AT));
-    match known {
+    match kinds::kind_of(octets::two_at(payload, TYPE_AT)) {
         Some(kind) => parameters_of(phase, kind, payload, flash),
         None => unmoved_say(
             phase,
@@ -110,6 +142,7 @@ fn parameters(phase: Phase, payload: &[u8], flash: usize) -> Decision
     }
 }
 
+#[tactic(auto, unfolding(module_model::specs::Rules::kind_decision))]
 fn parameters_of(phase: Phase, kind: Kind, payload: &[u8], flash: usize) -> Decision
     ensures { result ≡ kind_decision phase kind payload.now flash }
 {
@@ -121,7 +154,7 @@ fn parameters_of(phase: Phase, kind: Kind, payload: &[u8], flash: usize) -> Deci
             },
         );
     }
-    let extent = wide32(octets::four_at(payload, LENGTH_AT));
+    let extent = octets::four_at(payload, LENGTH_AT) as usize;
     if !kinds::fits_flash(kind, extent, flash) {
         return unmoved_say(
             phase,
@@ -131,10 +164,7 @@ fn parameters_of(phase: Phase, kind: Kind, payload: &[u8], flash: usize) -> Deci
         );
     }
     unmoved_say(
-        Phase::Begun(Transfer {
-            kind: kind,
-            extent: extent,
-        }),
+        Phase::Begun(Transfer { kind, extent }),
         Say::Parameters {
             ack: commands::ACCEPTED,
         },
@@ -142,10 +172,11 @@ fn parameters_of(phase: Phase, kind: Kind, payload: &[u8], flash: usize) -> Deci
 }
 
 // 0x06: restart closes the session.
+#[tactic(auto, unfolding(module_model::specs::Rules::restart_decision))]
 fn restart(phase: Phase, payload: &[u8]) -> Decision
     ensures { result ≡ restart_decision phase payload.now }
 {
-    if payload.len() != 0 {
+    if !payload.is_empty() {
         return unmoved_say(
             phase,
             Say::Restart {
@@ -161,18 +192,6 @@ fn restart(phase: Phase, payload: &[u8]) -> Decision
     )
 }
 
-// 0x05: the expected packet, a repeat of the one just accepted, or refused with PkNo 0.
-fn packet(phase: Phase, payload: &[u8], flash: &[u8]) -> Decision
-    requires { BoundedPhase phase }
-    ensures { result ≡ packet_decision phase payload.now flash.now }
-{
-    let given = numbers_in(payload);
-    if !well_formed(payload.len(), given.size) {
-        return packet_refused(phase);
-    }
-    packet_at(phase, given, octets::behind(payload, PACKET_HEAD), flash)
-}
-
 fn packet_refused(phase: Phase) -> Decision
     ensures { result ≡ not_taken phase }
 {
@@ -185,188 +204,159 @@ fn packet_refused(phase: Phase) -> Decision
     )
 }
 
+#[tactic(auto, unfolding(module_model::specs::Rules::numbers_in))]
 fn numbers_in(payload: &[u8]) -> Numbers
     ensures { result ≡ numbers_in payload.now }
 {
     Numbers {
-        total: wide16(octets::two_at(payload, 0)),
-        number: wide16(octets::two_at(payload, 2)),
-        size: wide16(octets::two_at(payload, 4)),
+        total: usize::from(octets::two_at(payload, 0)),
+        number: usize::from(octets::two_at(payload, 2)),
+        size: usize::from(octets::two_at(payload, 4)),
     }
 }
 
 // The payload is 6 + PkSize, and PkSize is 1 to 1,024.
+#[tactic(auto, unfolding(module_model::specs::Rules::well_formed))]
 fn well_formed(extent: usize, size: usize) -> bool
     ensures { result ≡ well_formed extent size }
 {
-    if size < 1 {
-        return false;
-    }
-    if LARGEST_PACKET < size {
-        return false;
-    }
-    extent == PACKET_HEAD + size
-}
-
-fn packet_at(phase: Phase, given: Numbers, bytes: &[u8], flash: &[u8]) -> Decision
-    requires { BoundedPhase phase × (given.size ≤ largest_packet) }
-    ensures { result ≡ phase_decision phase given bytes.now flash.now }
-{
-    match phase {
-        Phase::Closed => packet_refused(phase),
-        Phase::Ready => packet_refused(phase),
-        Phase::Begun(transfer) => first(transfer, given),
-        Phase::Loading {
-            pieces,
-            number,
-            written,
-        } => next(pieces, number, written, given, bytes, flash),
-        Phase::Done { pieces, written } => last(pieces, written, given, bytes, flash),
-    }
+    1 <= size && size <= LARGEST_PACKET && extent == PACKET_HEAD + size
 }
 
 // Packet 1 sets the size.
-fn first(transfer: Transfer, given: Numbers) -> Decision
-    requires { given.size ≤ largest_packet }
-    ensures { result ≡ first_decision transfer given }
+#[tactic(auto, unfolding(module_model::specs::Rules::first_decision))]
+fn first(transfer: Transfer, packet: Packet) -> Decision
+    ensures { result ≡ first_decision transfer packet.entry.numbers }
 {
-    if given.number != 1 {
-        return packet_refused(Phase::Begun(transfer));
-    }
-    if !cuts_into(transfer.extent, given.total, given.size) {
+    let given = packet.numbers;
+    if given.number != 1 || !cuts_into(transfer.extent, given.total, given.size) {
         return packet_refused(Phase::Begun(transfer));
     }
     let pieces = Pieces {
-        transfer: transfer,
+        transfer,
         size: given.size,
     };
-    taken_at(pieces, 1, given.size)
+    Place { pieces, number: 1 }.taken(given.size)
 }
 
 // With Total 1 the size must be the length, else Total must be length / size rounded up.
+#[tactic(auto, unfolding(module_model::specs::Rules::cuts_into))]
 fn cuts_into(extent: usize, total: usize, size: usize) -> bool
     ensures { result ≡ cuts_into extent total size }
 {
     if total == 1 {
-        return size == extent;
+        size == extent
+    } else {
+        total == pieces::count(extent, size)
     }
-    total == pieces::count(extent, size)
 }
 
 // While loading the next packet is taken, and a repeat of the one just accepted acknowledged.
-fn next(
-    pieces: Pieces,
-    number: usize,
-    written: usize,
-    given: Numbers,
-    bytes: &[u8],
-    flash: &[u8],
-) -> Decision
-    requires { Bounded pieces number written × (given.size ≤ largest_packet) }
-    ensures { result ≡ loading_decision pieces number written given bytes.now flash.now }
+#[tactic(auto, unfolding(module_model::specs::Rules::loading_decision))]
+fn next(pieces: Pieces, number: usize, written: usize, packet: Packet, flash: &[u8]) -> Decision
+    requires { Bounded pieces number written }
+    ensures { result ≡ loading_decision pieces number written packet.entry.numbers packet.entry.bytes.now flash.now }
 {
-    if is_packet(pieces, number + 1, given) {
-        return taken_at(pieces, number + 1, written + given.size);
+    let following = Place {
+        pieces,
+        number: number + 1,
+    };
+    if following.is_packet(packet.numbers) {
+        return following.taken(written + packet.numbers.size);
     }
     let phase = Phase::Loading {
-        pieces: pieces,
-        number: number,
-        written: written,
+        pieces,
+        number,
+        written,
     };
-    repeat(phase, pieces, number, given, bytes, flash)
+    Place { pieces, number }.repeat(phase, packet, flash)
 }
 
 // When done no packet is expected; a repeat of the last one is acknowledged.
-fn last(pieces: Pieces, written: usize, given: Numbers, bytes: &[u8], flash: &[u8]) -> Decision
+#[tactic(auto, unfolding(module_model::specs::Rules::done_decision))]
+fn last(pieces: Pieces, written: usize, packet: Packet, flash: &[u8]) -> Decision
     requires { Bounded pieces (total_of pieces) written }
-    ensures { result ≡ done_decision pieces written given bytes.now flash.now }
+    ensures { result ≡ done_decision pieces written packet.entry.numbers packet.entry.bytes.now flash.now }
 {
-    let phase = Phase::Done {
-        pieces: pieces,
-        written: written,
-    };
-    repeat(phase, pieces, total_of(pieces), given, bytes, flash)
+    let number = total_of(pieces);
+    Place { pieces, number }.repeat(Phase::Done { pieces, written }, packet, flash)
 }
 
-// A repeat is acknowledged again and nothing is put; any other packet is refused.
-fn repeat(
-    phase: Phase,
-    pieces: Pieces,
-    number: usize,
-    given: Numbers,
-    bytes: &[u8],
-    flash: &[u8],
-) -> Decision
-    requires { (1 ≤ number) × (number ≤ largest_total) × (pieces.size ≤ largest_packet) }
-    ensures { result ≡ repeat_decision phase pieces number given bytes.now flash.now }
-{
-    if is_repeat(pieces, number, given, bytes, flash) {
-        return acknowledge(phase, number, None);
+impl Place {
+    // A repeat is acknowledged again and nothing is put; any other packet is refused.
+    #[tactic(auto, unfolding(module_model::specs::Rules::repeat_decision))]
+    fn repeat(self, phase: Phase, packet: Packet, flash: &[u8]) -> Decision
+        ensures { result ≡ repeat_decision phase self.pieces self.number packet.entry.numbers packet.entry.bytes.now flash.now }
+    {
+        if self.is_repeat(packet, flash) {
+            acknowledge(phase, self.number, None)
+        } else {
+            packet_refused(phase)
+        }
     }
-    packet_refused(phase)
-}
 
-// Number, Total and size are those of this packet of the transfer.
-fn is_packet(pieces: Pieces, number: usize, given: Numbers) -> bool
-    ensures { result ≡ is_packet pieces number given }
-{
-    let transfer = pieces.transfer;
-    if given.number != number {
-        return false;
+    // Number, Total and size are those of this packet of the transfer.
+    #[tactic(auto, unfolding(module_model::specs::Rules::is_packet))]
+    fn is_packet(self, given: Numbers) -> bool
+        ensures { result ≡ is_packet self.pieces self.number given }
+    {
+        given.number == self.number
+            && given.total == total_of(self.pieces)
+            && given.size
+                == pieces::size_at(self.pieces.transfer.extent, self.pieces.size, self.number)
     }
-    if given.total != total_of(pieces) {
-        return false;
-    }
-    given.size == pieces::size_at(transfer.extent, pieces.size, number)
-}
 
-// A repeat has the same bytes as the flash, too.
-fn is_repeat(pieces: Pieces, number: usize, given: Numbers, bytes: &[u8], flash: &[u8]) -> bool
-    requires { (1 ≤ number) × (number ≤ largest_total) × (pieces.size ≤ largest_packet) }
-    ensures { result ≡ is_repeat pieces number given bytes.now flash.now }
-{
-    if !is_packet(pieces, number, given) {
-        return false;
+    // A repeat has the same bytes as the flash, too.
+    #[tactic(auto, unfolding(module_model::specs::Rules::is_repeat))]
+    fn is_repeat(self, packet: Packet, flash: &[u8]) -> bool
+        ensures { result ≡ is_repeat self.pieces self.number packet.entry.numbers packet.entry.bytes.now flash.now }
+    {
+        self.is_packet(packet.numbers)
+            && octets::same(
+                packet.bytes,
+                octets::part(flash, self.start(), packet.numbers.size),
+            )
     }
-    octets::same(
-        bytes,
-        octets::part(flash, place_of(pieces, number), given.size),
-    )
-}
 
-// An accepted packet goes to its place, and the session moves on.
-fn taken_at(pieces: Pieces, number: usize, written: usize) -> Decision
-    requires { (1 ≤ number) × (number ≤ largest_total + 1) × (pieces.size ≤ largest_packet) }
-    ensures { result ≡ taken pieces number written }
-{
-    let phase = phase_at(pieces, number, written);
-    acknowledge(phase, number, Some(place_of(pieces, number)))
+    // An accepted packet goes to its place, and the session moves on.
+    fn taken(self, written: usize) -> Decision
+        ensures { result ≡ taken self.pieces self.number written }
+    {
+        let phase = phase_at(self.pieces, self.number, written);
+        acknowledge(phase, self.number, Some(self.start()))
+    }
+
+    // Where a packet is written: the base of the type's image, and the packets before it.
+    fn start(self) -> usize
+        ensures { result ≡ place_of self.pieces self.number }
+    {
+        kinds::base_of(self.pieces.transfer.kind) as usize + (self.number - 1) * self.pieces.size
+    }
 }
 
 fn acknowledge(phase: Phase, number: usize, put: Option<usize>) -> Decision
     ensures { result ≡ acknowledge_of phase number put }
 {
     Decision {
-        phase: phase,
+        phase,
         say: say_of(phase, number),
-        put: put,
+        put,
     }
 }
 
 // Done with the last packet, else loading.
+#[tactic(auto, unfolding(module_model::specs::Rules::phase_at))]
 fn phase_at(pieces: Pieces, number: usize, written: usize) -> Phase
     ensures { result ≡ phase_at pieces number written }
 {
     if number == total_of(pieces) {
-        return Phase::Done {
-            pieces: pieces,
-            written: written,
-        };
-    }
-    Phase::Loading {
-        pieces: pieces,
-        number: number,
-        written: written,
+        Phase::Done { pieces, written }
+    } else {
+        Phase::Loading {
+            pieces,
+            number,
+            written,
+        }
     }
 }
 
@@ -375,35 +365,23 @@ fn say_of(phase: Phase, number: usize) -> Say
     ensures { result ≡ say_of phase number }
 {
     match phase {
-        Phase::Closed => Say::Packet {
-            number: number,
-            ack: commands::ACCEPTED,
-        },
-        Phase::Ready => Say::Packet {
-            number: number,
-            ack: commands::ACCEPTED,
-        },
-        Phase::Begun(_) => Say::Packet {
-            number: number,
-            ack: commands::ACCEPTED,
-        },
-        Phase::Loading { .. } => Say::Packet {
-            number: number,
+        Phase::Closed | Phase::Ready | Phase::Begun(_) | Phase::Loading { .. } => Say::Packet {
+            number,
             ack: commands::ACCEPTED,
         },
         Phase::Done { pieces, written } => Say::Last {
-            number: number,
+            number,
             state: state_of(pieces, written),
         },
     }
 }
 
 // State 0, or 1 if the count written is not the length.
+#[tactic(auto, unfolding(module_model::specs::Rules::state_of))]
 fn state_of(pieces: Pieces, written: usize) -> u8
     ensures { result ≡ state_of pieces written }
 {
-    let transfer = pieces.transfer;
-    if written == transfer.extent {
+    if written == pieces.transfer.extent {
         STATE_WHOLE
     } else {
         STATE_SHORT
@@ -413,28 +391,5 @@ fn state_of(pieces: Pieces, written: usize) -> u8
 fn total_of(pieces: Pieces) -> usize
     ensures { result ≡ total_of pieces }
 {
-    let transfer = pieces.transfer;
-    pieces::count(transfer.extent, pieces.size)
-}
-
-// Where a packet is written: the base of the type's image, and the packets before it.
-fn place_of(pieces: Pieces, number: usize) -> usize
-    requires { (1 ≤ number) × (number ≤ largest_total + 1) × (pieces.size ≤ largest_packet) }
-    ensures { result ≡ place_of pieces number }
-{
-    let transfer = pieces.transfer;
-    let kind = transfer.kind;
-    wide32(kinds::base_of(kind)) + (number - 1) * pieces.size
-}
-
-fn wide16(x: u16) -> usize
-    ensures { (result ≡ x) × (result < 65536) }
-{
-    x as usize
-}
-
-fn wide32(x: u32) -> usize
-    ensures { (result ≡ x) × (result < 4294967296) }
-{
-    x as usize
+    pieces::count(pieces.transfer.extent, pieces.size)
 }

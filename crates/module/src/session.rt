@@ -2,14 +2,14 @@
 ghost use Rattle.std.specs.Prelude.{◌≡◌, ◌≤◌, true, length};
 ghost use Rattle.module.specs.Session.{opening_of, stepped, takes};
 ghost use Rattle.module_model.specs.Phases.{openable, alive, fits, cuts, loading_arises, done_arises, held};
-ghost use Rattle.module.specs.Step.{left, smallest_reply, frame_step, time_step, step_of};
+ghost use Rattle.module.specs.Step.{left, frame_step, time_step, step_of};
 
-use crate::replies::send;
-use crate::rules::{decide, store};
+use crate::open::Open;
+use crate::replies::{Reply, send};
+use crate::rules::store;
 use commands::{LARGEST_PACKET, LARGEST_TOTAL};
 use module_model::{
-    Answer, CLOSING_IDLE, Event, LARGEST_FLASH, LONGEST_IDLE, Phase, Pieces, SMALLEST_REPLY,
-    Transfer,
+    Answer, CLOSING_IDLE, Event, LARGEST_FLASH, LONGEST_IDLE, Phase, Pieces, Transfer,
 };
 use refusals::Refusal;
 
@@ -32,6 +32,7 @@ pub struct Stepped {
 
 impl Session {
     // Opens a session over a flash. A refused opening gives a closed session that keeps the length.
+    #[tactic(auto, unfolding(crate::specs::Session::opening_of))]
     pub fn opening(flash: &[u8]) -> Stepped
         ensures { result ≡ opening_of flash.now }
     {
@@ -57,80 +58,50 @@ impl Session {
     }
 
     // Whether the session takes events: it is open, and its numbers could arise.
+    #[tactic(auto, unfolding(crate::specs::Session::takes))]
     pub fn is_open(self) -> bool
         ensures { result ≡ takes self }
     {
-        if !is_alive(self.flash, self.idle) {
-            return false;
-        }
-        let phase = self.phase;
-        is_held(phase, self.flash)
+        is_alive(self.flash, self.idle) && is_held(self.phase, self.flash)
     }
 
     // Takes one event. The payload is the first count bytes of the slice, or all of it where it is shorter.
+    #[tactic(auto, unfolding(crate::specs::Step::step_of, octets::specs::Octets::part_of))]
     pub fn step(self, event: Event, payload: &[u8], flash: &mut [u8], reply: &mut [u8]) -> Stepped
         ensures { left result flash.new reply.new
             ≡ step_of self event payload.now flash.old reply.old }
     {
-        if reply.len() < SMALLEST_REPLY {
-            return self.answers(Answer::Refused(Refusal::NoRoom));
+        match reply.first_chunk_mut() {
+            Some(front) => self.step_with_room(event, payload, flash, front),
+            None => self.answers(Answer::Refused(Refusal::NoRoom)),
         }
+    }
+
+    // All that an event is answered with stands in the front of the reply buffer.
+    #[tactic(auto, unfolding(crate::specs::Step::step_of, octets::specs::Octets::part_of))]
+    fn step_with_room(
+        self,
+        event: Event,
+        payload: &[u8],
+        flash: &mut [u8],
+        reply: &mut Reply,
+    ) -> Stepped
+        ensures { left result flash.new reply.new
+            ≡ step_of self event payload.now flash.old reply.old }
+    {
         if flash.len() != self.flash {
             return self.answers(Answer::Refused(Refusal::WrongLength));
         }
         if !self.is_open() {
             return self.answers(Answer::Nothing);
         }
+        let open = Open { session: self };
         match event {
             Event::Frame { command, count } => {
-                self.frame(command, octets::part(payload, 0, count), flash, reply)
+                open.frame(command, octets::part(payload, 0, count), flash, reply)
             }
-            Event::Elapsed(ms) => self.passes(ms),
+            Event::Elapsed(ms) => open.passes(ms),
         }
-    }
-
-    // An open session takes a frame: the rules decide, then flash and reply are written. The idle sum starts anew.
-    fn frame(self, command: u8, payload: &[u8], flash: &mut [u8], reply: &mut [u8]) -> Stepped
-        requires { (takes self ≡ true) × (smallest_reply ≤ length reply.old) }
-        ensures { left result flash.new reply.new
-            ≡ frame_step self command payload.now flash.old reply.old }
-    {
-        let phase = self.phase;
-        let decision = decide(phase, command, payload, flash);
-        let next = decision.phase;
-        let place = decision.put;
-        let say = decision.say;
-        store(place, payload, flash);
-        Stepped {
-            session: Session {
-                flash: self.flash,
-                idle: SUM_ANEW,
-                phase: next,
-            },
-            answer: send(say, reply),
-        }
-    }
-
-    // Milliseconds pass in an open session. A sum over 7,000 closes it.
-    fn passes(self, ms: u32) -> Stepped
-        requires { takes self ≡ true }
-        ensures { result ≡ time_step self ms }
-    {
-        if ms <= LONGEST_IDLE - self.idle {
-            let phase = self.phase;
-            return Session {
-                flash: self.flash,
-                idle: self.idle + ms,
-                phase: phase,
-            }
-            .answers(Answer::Nothing);
-        }
-        Session {
-            flash: self.flash,
-            idle: CLOSING_IDLE,
-            phase: Phase::Closed,
-        }
-        .answers(Answer::Nothing)
     }
 
     fn answers(self, answer: Answer) -> Stepped
@@ -138,29 +109,66 @@ impl Session {
     {
         Stepped {
             session: self,
-            answer: answer,
+            answer,
         }
     }
 }
 
+impl Open {
+    // A frame comes: the rules decide, then flash and reply are written. The idle sum starts anew.
+    #[tactic(auto, unfolding(crate::specs::Step::frame_step))]
+    fn frame(self, command: u8, payload: &[u8], flash: &mut [u8], reply: &mut Reply) -> Stepped
+        ensures { left result flash.new reply.new
+            ≡ frame_step self.session command payload.now flash.old reply.old }
+    {
+        let decision = self.decide(command, payload, flash);
+        store(decision.put, payload, flash);
+        Stepped {
+            session: Session {
+                idle: SUM_ANEW,
+                phase: decision.phase,
+                ..self.session
+            },
+            answer: send(decision.say, reply),
+        }
+    }
+
+    // Milliseconds pass. A sum over 7,000 closes the session.
+    #[tactic(auto, unfolding(crate::specs::Step::time_step))]
+    fn passes(self, ms: u32) -> Stepped
+        ensures { result ≡ time_step self.session ms }
+    {
+        let session = self.session;
+        if ms <= LONGEST_IDLE - session.idle {
+            return Session {
+                idle: session.idle + ms,
+                ..session
+            }
+            .answers(Answer::Nothing);
+        }
+        Session {
+            idle: CLOSING_IDLE,
+            phase: Phase::Closed,
+            ..session
+        }
+        .answers(Answer::Nothing)
+    }
+}
+
 // Whether a flash of this length can be opened.
+#[tactic(auto, unfolding(module_model::specs::Phases::openable))]
 fn can_open(extent: usize) -> bool
     ensures { result ≡ openable extent }
 {
-    if extent < 1 {
-        return false;
-    }
-    extent <= LARGEST_FLASH
+    1 <= extent && extent <= LARGEST_FLASH
 }
 
 // Whether an open session has such a flash and such an idle sum.
+#[tactic(auto, unfolding(module_model::specs::Phases::alive))]
 fn is_alive(flash: usize, idle: u32) -> bool
     ensures { result ≡ alive flash idle }
 {
-    if !can_open(flash) {
-        return false;
-    }
-    idle <= LONGEST_IDLE
+    can_open(flash) && idle <= LONGEST_IDLE
 }
 
 // Whether what an open phase has gone through could arise over a flash.
@@ -183,55 +191,37 @@ fn is_held(phase: Phase, flash: usize) -> bool
 fn is_fit(transfer: Transfer, flash: usize) -> bool
     ensures { result ≡ fits transfer flash }
 {
-    let kind = transfer.kind;
-    kinds::fits_flash(kind, transfer.extent, flash)
+    kinds::fits_flash(transfer.kind, transfer.extent, flash)
 }
 
 // Whether packet 1 could have set this size.
+#[tactic(auto, unfolding(module_model::specs::Phases::cuts))]
 fn is_cut(pieces: Pieces) -> bool
     ensures { result ≡ cuts pieces }
 {
-    let transfer = pieces.transfer;
-    if pieces.size < 1 {
-        return false;
-    }
-    if LARGEST_PACKET < pieces.size {
-        return false;
-    }
-    if transfer.extent < pieces.size {
-        return false;
-    }
-    pieces::count(transfer.extent, pieces.size) <= LARGEST_TOTAL
+    1 <= pieces.size
+        && pieces.size <= LARGEST_PACKET
+        && pieces.size <= pieces.transfer.extent
+        && pieces::count(pieces.transfer.extent, pieces.size) <= LARGEST_TOTAL
 }
 
+#[tactic(auto, unfolding(module_model::specs::Phases::loading_arises))]
 fn is_loading(pieces: Pieces, flash: usize, number: usize, written: usize) -> bool
     ensures { result ≡ loading_arises pieces flash number written }
 {
-    let transfer = pieces.transfer;
-    if !is_fit(transfer, flash) {
-        return false;
-    }
     if !is_cut(pieces) {
         return false;
     }
-    if number < 1 {
+    if pieces::count(pieces.transfer.extent, pieces.size) <= number {
         return false;
     }
-    if pieces::count(transfer.extent, pieces.size) <= number {
-        return false;
-    }
-    written == number * pieces.size
+    // A number below the count of a cut keeps the product small.
+    is_fit(pieces.transfer, flash) && 1 <= number && written == number * pieces.size
 }
 
+#[tactic(auto, unfolding(module_model::specs::Phases::done_arises))]
 fn is_done(pieces: Pieces, flash: usize, written: usize) -> bool
     ensures { result ≡ done_arises pieces flash written }
 {
-    let transfer = pieces.transfer;
-    if !is_fit(transfer, flash) {
-        return false;
-    }
-    if !is_cut(pieces) {
-        return false;
-    }
-    written == transfer.extent
+    is_fit(pieces.transfer, flash) && is_cut(pieces) && written == pieces.transfer.extent
 }

@@ -12,6 +12,7 @@ use ubf_model::{
 };
 
 // Reads the block at the front.
+#[tactic(auto, unfolding(ubf_model::specs::Block::block_of))]
 pub fn read(s: &[u8]) -> Result<Block, Refusal>
     ensures { result ≡ block_of s.now }
 {
@@ -21,12 +22,11 @@ pub fn read(s: &[u8]) -> Result<Block, Refusal>
     if !marked(s) {
         return Err(Refusal::WrongMark);
     }
-    match kinds::kind_of(octets::two_at(s, TYPE_PLACE)) {
-        Some(kind) => read_kind(s, kind),
-        None => Err(Refusal::WrongType),
-    }
+    let kind = kinds::kind_of(octets::two_at(s, TYPE_PLACE)).ok_or(Refusal::WrongType)?;
+    read_kind(s, kind)
 }
 
+#[tactic(auto, unfolding(ubf_model::specs::Block::kind_block))]
 fn read_kind(s: &[u8], kind: Kind) -> Result<Block, Refusal>
     ensures { result ≡ kind_block kind s.now }
 {
@@ -34,12 +34,12 @@ fn read_kind(s: &[u8], kind: Kind) -> Result<Block, Refusal>
         return Err(Refusal::WrongType);
     }
     let extent = octets::four_at(s, LENGTH_PLACE);
-    let long = wide(extent);
+    let long = extent as usize;
     if !kinds::fits_file(kind, long) {
         return Err(Refusal::WrongImageLength);
     }
     let start = octets::four_at(s, START_PLACE);
-    let from = wide(start);
+    let from = start as usize;
     if from < HEADER_SIZE {
         return Err(Refusal::WrongStart);
     }
@@ -65,14 +65,14 @@ fn read_kind(s: &[u8], kind: Kind) -> Result<Block, Refusal>
 pub fn size(block: Block) -> usize
     ensures { result ≡ size_of block }
 {
-    wide(block.start) + wide(block.extent) + 4
+    block.start as usize + block.extent as usize + 4
 }
 
 // The image, as a part of the bytes that the block was read from.
 pub fn image(s: &[u8], block: Block) -> &[u8]
     ensures { result.now ≡ image_of block s.now }
 {
-    octets::part(s, wide(block.start), wide(block.extent))
+    octets::part(s, block.start as usize, block.extent as usize)
 }
 
 // The texts, each with the zeros that fill its field, as parts of the bytes.
@@ -107,49 +107,61 @@ fn marked(s: &[u8]) -> bool
 }
 
 // Whether the texts and the gap up to the image are filled with zeros.
+#[tactic(auto, unfolding(ubf_model::specs::Block::filled_in))]
 fn filled(s: &[u8], gap: usize) -> bool
     requires { gap ≡ start_in s.now - header_size }
     ensures { result ≡ filled_in s.now }
 {
-    if !texts_fit(model(s), version(s), file_name(s), date(s)) {
-        return false;
-    }
-    octets::zeros(octets::part(s, HEADER_SIZE, gap))
+    Texts::of(s).fit() && octets::zeros(octets::part(s, HEADER_SIZE, gap))
 }
 
-pub(crate) fn texts_fit(model: &[u8], version: &[u8], name: &[u8], date: &[u8]) -> bool
-    ensures { result ≡ texts_fit model.now version.now name.now date.now }
-{
-    if !text_fits(model, MODEL_SIZE) {
-        return false;
+// The four texts of a block.
+#[derive(Clone, Copy)]
+pub(crate) struct Texts<'a> {
+    pub(crate) model: &'a [u8],
+    pub(crate) version: &'a [u8],
+    pub(crate) name: &'a [u8],
+    pub(crate) date: &'a [u8],
+}
+
+impl<'a> Texts<'a> {
+    // The fields of a block, each with the zeros that fill it.
+    fn of(s: &'a [u8]) -> Texts<'a>
+        ensures model { result.model.now ≡ model_in s.now }
+        ensures version { result.version.now ≡ version_in s.now }
+        ensures name { result.name.now ≡ name_in s.now }
+        ensures date { result.date.now ≡ date_in s.now }
+    {
+        Texts {
+            model: model(s),
+            version: version(s),
+            name: file_name(s),
+            date: date(s),
+        }
     }
-    if !text_fits(version, VERSION_SIZE) {
-        return false;
+
+    // Whether each can stand in its field.
+    #[tactic(auto, unfolding(ubf_model::specs::Block::texts_fit))]
+    pub(crate) fn fit(self) -> bool
+        ensures { result ≡ texts_fit self.entry.model.now self.entry.version.now self.entry.name.now self.entry.date.now }
+    {
+        text_fits(self.model, MODEL_SIZE)
+            && text_fits(self.version, VERSION_SIZE)
+            && text_fits(self.name, NAME_SIZE)
+            && text_fits(self.date, DATE_SIZE)
     }
-    if !text_fits(name, NAME_SIZE) {
-        return false;
-    }
-    text_fits(date, DATE_SIZE)
 }
 
 // Whether a field of n bytes can hold a text.
+#[tactic(auto, unfolding(ubf_model::specs::Block::text_fits))]
 fn text_fits(text: &[u8], n: usize) -> bool
     ensures { result ≡ text_fits n text.now }
 {
-    if n < text.len() {
-        return false;
-    }
-    octets::zero_filled(text)
+    text.len() <= n && octets::zero_filled(text)
 }
 
 fn xor_of_part(s: &[u8], at: usize, n: usize) -> u32
     ensures { result ≡ xor_words (part_of s.now at n) }
 {
     octets::xor_words(octets::part(s, at, n))
-}
-
-pub(crate) fn wide(x: u32) -> usize
-    ensures { (result ≡ x) × (result < 4294967296) }
-{
-    x as usize
 }

@@ -13,7 +13,7 @@ ghost use Rattle.ubf_model.specs.Pack.{
 };
 ghost use Rattle.ubf_model.specs.Room.{HeaderRoom};
 
-use crate::block::{texts_fit, wide};
+use crate::block::Texts;
 use refusals::Refusal;
 use ubf_model::{
     ADDRESS_PLACE, DATE_PLACE, DATE_SIZE, HEADER_SIZE, LENGTH_PLACE, MARK_PLACE, MODEL_PLACE,
@@ -22,6 +22,8 @@ use ubf_model::{
 };
 
 // Writes a block into the output: type, address and start of the image, four texts without their zeros, the image.
+// The contract of this public function names each text, so each stays a parameter of its own.
+#[tactic(auto, unfolding(ubf_model::specs::Pack::pack_of))]
 pub fn write(
     numbers: Numbers,
     model: &[u8],
@@ -42,18 +44,24 @@ pub fn write(
     if !image_fits(numbers.number, image.len()) {
         return Err(Refusal::WrongImageLength);
     }
-    let start = wide(numbers.start);
+    let start = numbers.start as usize;
     if start < HEADER_SIZE {
         return Err(Refusal::WrongStart);
     }
-    if !texts_fit(model, version, name, date) {
+    let texts = Texts {
+        model,
+        version,
+        name,
+        date,
+    };
+    if !texts.fit() {
         return Err(Refusal::NotZeroFilled);
     }
     let size = start + image.len() + 4;
     if out.len() < size {
         return Err(Refusal::NoRoom);
     }
-    lay_header(numbers, model, version, name, date, image, out);
+    lay_header(numbers, texts, image, out);
     lay_image(start, image, out);
     Ok(size)
 }
@@ -62,49 +70,49 @@ pub fn write(
 fn type_pairs(number: u16, address: u32) -> bool
     ensures { result ≡ pairs (kind_of number) address }
 {
-    match kinds::kind_of(number) {
-        Some(kind) => address == kinds::base_of(kind),
-        None => false,
-    }
+    kinds::kind_of(number).is_some_and(|kind| address == kinds::base_of(kind))
 }
 
 // Whether a type is known and may have an image of this length.
 fn image_fits(number: u16, extent: usize) -> bool
     ensures { result ≡ fits (kind_of number) extent }
 {
-    match kinds::kind_of(number) {
-        Some(kind) => kinds::fits_file(kind, extent),
-        None => false,
-    }
+    kinds::kind_of(number).is_some_and(|kind| kinds::fits_file(kind, extent))
 }
 
 // Every field of the header at its offset.
-fn lay_header(
-    numbers: Numbers,
-    model: &[u8],
-    version: &[u8],
-    name: &[u8],
-    date: &[u8],
-    image: &[u8],
-    out: &mut [u8],
-)
-    requires { HeaderRoom (gathered numbers model.now version.now name.now date.now image.now) out.old }
+fn lay_header(numbers: Numbers, texts: Texts, image: &[u8], out: &mut [u8])
+    requires { HeaderRoom
+        (gathered
+        numbers
+        texts.model.now
+        texts.version.now
+        texts.name.now
+        texts.date.now
+        image.now)
+        out.old }
     ensures { out.new
         ≡ lay_all
         out.old
         0
         (header_pieces
-        (gathered numbers model.now version.now name.now date.now image.now)) }
+        (gathered
+        numbers
+        texts.entry.model.now
+        texts.entry.version.now
+        texts.entry.name.now
+        texts.entry.date.now
+        image.now)) }
 {
     octets::copy(b"AT", out, MARK_PLACE);
     octets::put_four(out, LENGTH_PLACE, image.len() as u32);
     octets::put_four(out, ADDRESS_PLACE, numbers.address);
     octets::put_four(out, START_PLACE, numbers.start);
     octets::put_two(out, TYPE_PLACE, numbers.number);
-    lay_text(model, MODEL_SIZE, out, MODEL_PLACE);
-    lay_text(version, VERSION_SIZE, out, VERSION_PLACE);
-    lay_text(name, NAME_SIZE, out, NAME_PLACE);
-    lay_text(date, DATE_SIZE, out, DATE_PLACE);
+    lay_text(texts.model, MODEL_SIZE, out, MODEL_PLACE);
+    lay_text(texts.version, VERSION_SIZE, out, VERSION_PLACE);
+    lay_text(texts.name, NAME_SIZE, out, NAME_PLACE);
+    lay_text(texts.date, DATE_SIZE, out, DATE_PLACE);
 }
 
 // A text in its field of n bytes, the rest of it zeros.

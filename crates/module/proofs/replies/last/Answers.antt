@@ -1,6 +1,7 @@
 -- `last`: the notice is written behind the acknowledgement.
 use Rattle.commands.specs.Commands.{accepted, packet_reply, notice}
-use Rattle.module.specs.StepLaws.{sent_two}
+use Rattle.std.proofs.Common.{sym}
+use Rattle.module.proofs.Room.{sent_in}
 use Rattle.module.proofs.replies.last.Goals as goal
 
 pub returns : goal.returns
@@ -8,5 +9,5 @@ returns c =
     let a = c.args in
     let first = c.packet-n in
     let second = c.one in
-    sent_two (packet_reply a.number accepted) (notice a.state) first.result second.result a.reply.now
-    first.new.reply second.new.reply first.ensures second.ensures
+    sent_in (packet_reply a.number accepted) (notice a.state) first.result second.result _ a.reply.now
+    first.new.reply second.new.reply (sym first.array_long) first.ensures second.ensures

@@ -7,12 +7,12 @@ pub returns-in-Ok : goal.returns-in-Ok
 returns-in-Ok c =
     let a = c.args in
     let p = c.requires in
-    let w = c.write-written in
+    let w = c.write in
     wrote_one (frame a.command a.payload.now) a.reply.now p.0 p.1 _ _ _ w.ensures c.in-Ok.is
 
 pub returns-in-Err : goal.returns-in-Err
 returns-in-Err c =
     let a = c.args in
     let p = c.requires in
-    let w = c.write-written in
+    let w = c.write in
     absurd (wrote_never (frame a.command a.payload.now) a.reply.now p.0 p.1 _ _ _ w.ensures c.in-Err.is)

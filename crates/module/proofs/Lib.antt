@@ -1,0 +1,2 @@
+-- A reply in the front of its buffer.
+pub mod Room
