@@ -1,6 +1,7 @@
 -- Words that a record spells, found in it again.
-use Rattle.std.specs.Prelude.{ℕ, ◌+◌, ◌*◌, ◌/◌, ◌≤◌, ◌<◌, true, List, [], ◌∷◌, ◌++◌, ◌≡◌, refl, ltb, length, take, drop}
+use Rattle.std.specs.Prelude.{ℕ, ◌+◌, ◌*◌, ◌/◌, ◌≤◌, ◌<◌, true, List, [], ◌∷◌, ◌++◌, ◌≡◌, refl, ltb, length, take, drop, replicate}
 use Rattle.std.proofs.Common.{append_assoc, ap, ◌∙◌, arith, le-ltb, take-append-drop, take_at, drop_at, drop-drop}
+use Rattle.std.proofs.lemmas.List.{length-replicate}
 use Rattle.octets.specs.Octets.{spelled, number_at, part_of, over}
 use Rattle.octets.proofs.OctetsLaws.{length_spelled, number_four, same_refl, same_true, take_over, over_over, over_all, length_over}
 use Rattle.octets.proofs.Choice.{either_way}
@@ -55,6 +56,10 @@ module _ (ws st : List ℕ) (room : length ws ≤ length st / 4) where
 pub recorded_alone : (ws st : List ℕ) → length st ≡ 4 * length ws → recorded ws st ≡ spelled_all ws
 recorded_alone ws st e =
     recorded_over ws st (omega (arith, e)) ∙ over_all (spelled_all ws) st (rw (length_spelled_all ws) (omega (arith, e)))
+
+-- So in as many zeros.
+pub spelled_alone : (ws : List ℕ) (n : ℕ) → n ≡ 4 * length ws → recorded ws (replicate n 0) ≡ spelled_all ws
+spelled_alone ws n e = recorded_alone ws (replicate n 0) (length-replicate n 0 ∙ e)
 
 -- A record of as many words covers the one before.
 pub recorded_again : (ws vs st : List ℕ) → length ws ≡ length vs → length ws ≤ length st / 4

@@ -5,4 +5,4 @@ pub mod answers;
 pub mod words;
 
 pub use answers::{DONE, DROPPED, FOUND, FRAME, NOTHING, PAST, UNKNOWN, WRITTEN};
-pub use words::{eight_at, high, low, store, wide};
+pub use words::{eight_at, high, low, spelled, store, wide};

@@ -1,7 +1,7 @@
 // A record: words of four bytes each, one behind the other at the front of a buffer.
-ghost use Rattle.std.specs.Prelude.{◌≡◌, ◌<◌};
+ghost use Rattle.std.specs.Prelude.{◌≡◌, ◌*◌, ◌<◌, length, replicate};
 ghost use Rattle.octets.specs.Octets.{number_at};
-ghost use Rattle.flat.specs.Words.{low_half, high_half, recorded};
+ghost use Rattle.flat.specs.Words.{low_half, high_half, recorded, spelled_all};
 
 // Writes the words at the front of the buffer, or nothing where they have no room.
 #[tactic(auto, using(crate::specs::WordsLaws::words_laid), unfolding(crate::specs::Words::recorded, crate::specs::Words::spelled_all, octets::specs::Octets::over))]
@@ -13,6 +13,17 @@ pub fn store(words: &[u32], state: &mut [u8])
             octets::put_four(state, i * 4, word);
         }
     }
+}
+
+// The record of the words in N bytes, all zeros where they have no room. In as many bytes as they have it is the words alone.
+#[tactic(auto, using(crate::specs::Found::spelled_alone))]
+pub fn spelled<const N: usize>(words: &[u32]) -> [u8; N]
+    ensures record { result ≡ recorded words.now (replicate N 0) }
+    ensures alone { N ≡ 4 * length words.now → result ≡ spelled_all words.now }
+{
+    let mut bytes = [0; N];
+    store(words, &mut bytes);
+    bytes
 }
 
 // The number in the eight bytes from a place on.

@@ -15,13 +15,12 @@ pub(crate) fn send(plan: Plan, stage: Stage, image: &[u8], out: &mut [u8]) -> Re
     ensures { record { answer = result; output = out.new }
         ≡ sent_of (message_of plan image.now stage) out.old }
 {
-    let kind = plan.kind;
     match stage {
         Stage::Text => send_text(out),
         Stage::Asking(rate) => commands::write_rate(rate_number(rate), out),
-        Stage::Declaring(_) => commands::write_parameters(kind, image.len(), out),
-        Stage::Sending { rate, size, number } => commands::write_packet(image, size, number, out),
-        Stage::Noticing { rate, size } => {
+        Stage::Declaring(_) => commands::write_parameters(plan.kind, image.len(), out),
+        Stage::Sending { size, number, .. } => commands::write_packet(image, size, number, out),
+        Stage::Noticing { size, .. } => {
             commands::write_packet(image, size, pieces::count(image.len(), size), out)
         }
         Stage::Restarting { .. } => send_restart(out),

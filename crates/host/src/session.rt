@@ -40,15 +40,14 @@ impl Session {
         ensures { left result out.new
             ≡ opening_of number (record { first = first; wish = wish; start = start; same = same }) image.now out.old }
     {
-        let known = kinds::kind_of(number);
-        match known {
+        match kinds::kind_of(number) {
             Some(kind) => {
                 let plan = Plan {
-                    kind: kind,
-                    first: first,
-                    wish: wish,
-                    start: start,
-                    same: same,
+                    kind,
+                    first,
+                    wish,
+                    start,
+                    same,
                 };
                 let next = waits::plan_next(plan, image.len());
                 over(image.len()).performs(next, image, out)
@@ -66,10 +65,8 @@ impl Session {
         if image.len() != self.image {
             return self.answers(Answer::Refused(Refusal::WrongLength));
         }
-        let phase = self.taken();
-        match phase {
-            Phase::Ended => self.answers(Answer::Nothing),
-            Phase::EndedAt { .. } => self.answers(Answer::Nothing),
+        match self.taken() {
+            Phase::Ended | Phase::EndedAt { .. } => self.answers(Answer::Nothing),
             Phase::Waiting(wait) => {
                 let next = waits::event_next(wait, image.len(), event, bytes);
                 self.performs(next, image, out)
@@ -81,14 +78,9 @@ impl Session {
     pub fn progress(self) -> Progress
         ensures { result ≡ session_progress self }
     {
-        let phase = self.taken();
-        match phase {
-            Phase::Ended => none(),
-            Phase::EndedAt { .. } => none(),
-            Phase::Waiting(wait) => {
-                let stage = wait.stage;
-                waits::stage_progress(stage, self.image)
-            }
+        match self.taken() {
+            Phase::Ended | Phase::EndedAt { .. } => none(),
+            Phase::Waiting(wait) => waits::stage_progress(wait.stage, self.image),
         }
     }
 
@@ -96,14 +88,10 @@ impl Session {
     pub fn line_rate(self) -> Option<Rate>
         ensures { result ≡ session_rate self }
     {
-        let phase = self.taken();
-        match phase {
+        match self.taken() {
             Phase::Ended => None,
-            Phase::EndedAt { kind, rate } => Some(rate),
-            Phase::Waiting(wait) => {
-                let stage = wait.stage;
-                waits::message_rate(stage, wait.repeats)
-            }
+            Phase::EndedAt { rate, .. } => Some(rate),
+            Phase::Waiting(wait) => waits::message_rate(wait.stage, wait.repeats),
         }
     }
 
@@ -111,10 +99,8 @@ impl Session {
     pub fn resent(self) -> u32
         ensures { result ≡ session_repeats self }
     {
-        let phase = self.taken();
-        match phase {
-            Phase::Ended => 0,
-            Phase::EndedAt { .. } => 0,
+        match self.taken() {
+            Phase::Ended | Phase::EndedAt { .. } => 0,
             Phase::Waiting(wait) => wait.repeats,
         }
     }
@@ -123,19 +109,17 @@ impl Session {
     pub fn can_arise(self) -> bool
         ensures { result ≡ arises self }
     {
-        let own = self.phase;
-        waits::phase_arises(self.image, own)
+        waits::phase_arises(self.image, self.phase)
     }
 
     // How far the session is taken to be.
     fn taken(self) -> Phase
         ensures { result ≡ taken_phase self }
     {
-        let phase = self.phase;
-        if !waits::phase_arises(self.image, phase) {
+        if !self.can_arise() {
             return Phase::Ended;
         }
-        phase
+        self.phase
     }
 
     // What follows is done.
@@ -157,10 +141,7 @@ impl Session {
         requires { Small wait.stage }
         ensures { left result out.new ≡ performs self (Sends wait) image.now out.old }
     {
-        let plan = wait.plan;
-        let stage = wait.stage;
-        let sent = send(plan, stage, image, out);
-        match sent {
+        match send(wait.plan, wait.stage, image, out) {
             Ok(n) => waiting(image.len(), wait).answers(Answer::Sent(n)),
             Err(number) => self.answers(Answer::Refused(number)),
         }
@@ -170,12 +151,11 @@ impl Session {
     fn fails(self, refusal: Refusal, passed: u8, image: &[u8], out: &mut [u8]) -> Stepped
         ensures { left result out.new ≡ performs self (Fails refusal passed) image.now out.old }
     {
-        let sent = send_restart(out);
-        match sent {
-            Ok(n) => self.failed(image.len()).answers(Answer::Failed {
+        match send_restart(out) {
+            Ok(count) => self.failed(image.len()).answers(Answer::Failed {
                 refusal,
                 passed,
-                count: n,
+                count,
             }),
             Err(none) => self.answers(Answer::Refused(none)),
         }
@@ -185,15 +165,11 @@ impl Session {
     fn failed(self, image: usize) -> Session
         ensures { result ≡ failed_of self image }
     {
-        let phase = self.phase;
-        match phase {
+        match self.phase {
             Phase::Ended => over(image),
             Phase::EndedAt { kind, rate } => over_at(image, kind, rate),
             Phase::Waiting(wait) => {
-                let plan = wait.plan;
-                let stage = wait.stage;
-                let kind = plan.kind;
-                over_with(image, kind, waits::message_rate(stage, 0))
+                over_with(image, wait.plan.kind, waits::message_rate(wait.stage, 0))
             }
         }
     }
@@ -203,7 +179,7 @@ impl Session {
     {
         Stepped {
             session: self,
-            answer: answer,
+            answer,
         }
     }
 }
@@ -221,7 +197,7 @@ fn waiting(image: usize, wait: Wait) -> Session
     ensures { result ≡ session image (Waiting wait) }
 {
     Session {
-        image: image,
+        image,
         phase: Phase::Waiting(wait),
     }
 }
@@ -230,7 +206,7 @@ fn over(image: usize) -> Session
     ensures { result ≡ ended_of image }
 {
     Session {
-        image: image,
+        image,
         phase: Phase::Ended,
     }
 }
@@ -248,10 +224,7 @@ fn over_at(image: usize, kind: Kind, rate: Rate) -> Session
     ensures { result ≡ session image (EndedAt kind rate) }
 {
     Session {
-        image: image,
-        phase: Phase::EndedAt {
-            kind: kind,
-            rate: rate,
-        },
+        image,
+        phase: Phase::EndedAt { kind, rate },
     }
 }

@@ -29,7 +29,7 @@ impl HostEnd {
         HostEnd {
             reader: Reader::new(),
             seen: 0,
-            session: session,
+            session,
         }
     }
 
@@ -37,18 +37,16 @@ impl HostEnd {
     pub fn hear(self, byte: u8, image: &[u8], out: &mut [u8]) -> HostStep
         ensures { host_left result out.new ≡ host_hears self byte image.now out.old }
     {
-        let seen = follow(&commands::START_ANSWER, self.seen, byte);
-        let reader = self.reader;
-        let session = self.session;
-        let read = reader.step(byte);
-        let next = read.reader;
-        let heard = read.heard;
-        match heard {
-            Heard::Nothing => line(next, seen, session, false, image, out),
-            Heard::Frame { command, count } => frame(
-                next, seen, session, command, count, image, out,
-            ),
-            Heard::Dropped => line(next, seen, session, true, image, out),
+        let read = self.reader.step(byte);
+        let end = HostEnd {
+            reader: read.reader,
+            seen: follow(&commands::START_ANSWER, self.seen, byte),
+            session: self.session,
+        };
+        match read.heard {
+            Heard::Nothing => end.line(false, image, out),
+            Heard::Frame { command, count } => end.frame(command, count, image, out),
+            Heard::Dropped => end.line(true, image, out),
         }
     }
 
@@ -56,75 +54,44 @@ impl HostEnd {
     pub fn wait(self, ms: u32, image: &[u8], out: &mut [u8]) -> HostStep
         ensures { host_left result out.new ≡ host_waits self ms image.now out.old }
     {
-        let reader = self.reader;
-        let session = self.session;
-        let next = session.step(Event::Elapsed(ms), b"", image, out);
-        let after = next.session;
-        let answer = next.answer;
-        leaves(reader, self.seen, after, answer, false)
+        let next = self.session.step(Event::Elapsed(ms), b"", image, out);
+        self.leaves(next.session, next.answer, false)
     }
-}
 
-fn leaves(reader: Reader, seen: usize, session: Session, answer: Answer, dropped: bool) -> HostStep
-    ensures { result ≡ host_step reader seen session answer dropped }
-{
-    HostStep {
-        end: HostEnd {
-            reader: reader,
-            seen: seen,
-            session: session,
-        },
-        answer: answer,
-        dropped: dropped,
+    fn leaves(self, session: Session, answer: Answer, dropped: bool) -> HostStep
+        ensures { result ≡ host_step self.reader self.seen session answer dropped }
+    {
+        HostStep {
+            end: HostEnd { session, ..self },
+            answer,
+            dropped,
+        }
     }
-}
 
-// The session takes a frame that the reader has handed out; its payload stands in the reader's store.
-fn frame(
-    reader: Reader,
-    seen: usize,
-    session: Session,
-    command: u8,
-    count: usize,
-    image: &[u8],
-    out: &mut [u8],
-) -> HostStep
-    ensures { host_left result out.new
-        ≡ frame_heard reader seen session command count image.now out.old }
-{
-    let store = reader.store;
-    let next = session.step(
-        Event::Frame {
-            command: command,
-            count: count,
-        },
-        reader::payload(&store, count),
-        image,
-        out,
-    );
-    let after = next.session;
-    let answer = next.answer;
-    leaves(reader, seen, after, answer, false)
-}
-
-// No frame: the session takes the answer to the start text if this byte was its last.
-fn line(
-    reader: Reader,
-    seen: usize,
-    session: Session,
-    dropped: bool,
-    image: &[u8],
-    out: &mut [u8],
-) -> HostStep
-    ensures { host_left result out.new
-        ≡ line_heard reader seen session dropped image.now out.old }
-{
-    let text = &commands::START_ANSWER;
-    if seen == text.len() {
-        let next = session.step(Event::Line { count: text.len() }, text, image, out);
-        let after = next.session;
-        let answer = next.answer;
-        return leaves(reader, seen, after, answer, dropped);
+    // The session takes a frame that the reader has handed out; its payload stands in the reader's store.
+    fn frame(self, command: u8, count: usize, image: &[u8], out: &mut [u8]) -> HostStep
+        ensures { host_left result out.new
+            ≡ frame_heard self.reader self.seen self.session command count image.now out.old }
+    {
+        let payload = reader::payload(&self.reader.store, count);
+        let next = self
+            .session
+            .step(Event::Frame { command, count }, payload, image, out);
+        self.leaves(next.session, next.answer, false)
     }
-    leaves(reader, seen, session, Answer::Nothing, dropped)
+
+    // No frame: the session takes the answer to the start text if this byte was its last.
+    fn line(self, dropped: bool, image: &[u8], out: &mut [u8]) -> HostStep
+        ensures { host_left result out.new
+            ≡ line_heard self.reader self.seen self.session dropped image.now out.old }
+    {
+        let text = &commands::START_ANSWER;
+        if self.seen == text.len() {
+            let next = self
+                .session
+                .step(Event::Line { count: text.len() }, text, image, out);
+            return self.leaves(next.session, next.answer, dropped);
+        }
+        self.leaves(self.session, Answer::Nothing, dropped)
+    }
 }

@@ -16,11 +16,9 @@ pub fn follow(text: &[u8], seen: usize, byte: u8) -> usize
 }
 
 // Whether a byte is at a place of a text.
+#[tactic(auto, unfolding(crate::specs::Text::stands))]
 fn stands(text: &[u8], at: usize, byte: u8) -> bool
     ensures { result ≡ stands text.now at byte }
 {
-    if at < text.len() {
-        return text[at] == byte;
-    }
-    false
+    text.get(at) == Some(&byte)
 }

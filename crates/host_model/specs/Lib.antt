@@ -2,6 +2,7 @@
 -- (Messages), what a session waits for (Waits), what follows an event (Nexts), what a caller reads from a session (Views) and from an
 -- answer (Events); the laws of each stand beside it.
 pub mod Stages
+pub mod Rates
 pub mod Answers
 pub mod Messages
 pub mod Waits

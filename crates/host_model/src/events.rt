@@ -3,7 +3,7 @@ use refusals::Refusal;
 
 // A frame has arrived, with the first count bytes of the slice lent beside it as its payload; or a line of text, its CR LF with it, in
 // the first count bytes; or milliseconds have passed.
-#[derive(Clone, Copy)]
+#[derive(Clone, Copy, Debug, PartialEq, Eq)]
 pub enum Event {
     Frame { command: u8, count: usize },
     Line { count: usize },
@@ -12,7 +12,7 @@ pub enum Event {
 
 // Nothing to send; so many bytes to send at the front of the output; the load is done; refused; or the module refused
 // (21) or reports a failure (22): its byte passed on, and so many bytes of the restart frame to send.
-#[derive(Clone, Copy)]
+#[derive(Clone, Copy, Debug, PartialEq, Eq)]
 pub enum Answer {
     Nothing,
     Sent(usize),

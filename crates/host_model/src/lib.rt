@@ -5,6 +5,7 @@ mod answers;
 mod events;
 mod nexts;
 mod plan;
+mod rate;
 mod views;
 mod waits;
 
@@ -12,5 +13,6 @@ pub use answers::Move;
 pub use events::{Answer, Event};
 pub use nexts::Next;
 pub use plan::{Plan, Rate, Same, Stage, Start};
+pub use rate::UnknownRate;
 pub use views::Progress;
 pub use waits::{Phase, Wait};

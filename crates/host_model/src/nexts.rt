@@ -5,7 +5,7 @@ use refusals::Refusal;
 
 // All stays; this is awaited from now on; a message is sent and this awaited; the session ends with an answer; or it ends with the
 // restart frame and the module's byte passed on.
-#[derive(Clone, Copy)]
+#[derive(Clone, Copy, Debug, PartialEq, Eq)]
 pub enum Next {
     Stays,
     Waits(Wait),

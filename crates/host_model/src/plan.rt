@@ -2,7 +2,7 @@
 use kinds::Kind;
 
 // The five rates, lowest first.
-#[derive(Clone, Copy)]
+#[derive(Clone, Copy, Debug, PartialEq, Eq, PartialOrd, Ord)]
 pub enum Rate {
     R9600,
     R19200,
@@ -12,21 +12,21 @@ pub enum Rate {
 }
 
 // Whether the start text is sent.
-#[derive(Clone, Copy)]
+#[derive(Clone, Copy, Debug, PartialEq, Eq)]
 pub enum Start {
     WithText,
     AtOnce,
 }
 
 // What to do when the module reports the same version.
-#[derive(Clone, Copy)]
+#[derive(Clone, Copy, Debug, PartialEq, Eq)]
 pub enum Same {
     GoOn,
     Stop,
 }
 
 // What a session was opened with.
-#[derive(Clone, Copy)]
+#[derive(Clone, Copy, Debug, PartialEq, Eq)]
 pub struct Plan {
     pub kind: Kind,
     pub first: Rate,
@@ -37,7 +37,7 @@ pub struct Plan {
 
 // What the session waits for: the answer to the start text, a rate, the parameters, a packet; the notice; the answer to the restart.
 // From the parameters on the line has the rate that was agreed, from the packets on the piece size is set.
-#[derive(Clone, Copy)]
+#[derive(Clone, Copy, Debug, PartialEq, Eq)]
 pub enum Stage {
     Text,
     Asking(Rate),

@@ -4,7 +4,7 @@ use kinds::Kind;
 
 // What a session waits for. Waited is the time since the last sending or fitting answer; repeats is how often the message under way
 // was resent.
-#[derive(Clone, Copy)]
+#[derive(Clone, Copy, Debug, PartialEq, Eq)]
 pub struct Wait {
     pub plan: Plan,
     pub stage: Stage,
@@ -13,7 +13,7 @@ pub struct Wait {
 }
 
 // A load of a type that the module refused or reported as failed has ended too: its restart frame goes out at the agreed rate.
-#[derive(Clone, Copy)]
+#[derive(Clone, Copy, Debug, PartialEq, Eq)]
 pub enum Phase {
     Ended,
     EndedAt { kind: Kind, rate: Rate },

@@ -1,7 +1,7 @@
 -- Calls through kept bytes are the caller's own.
-use Rattle.std.specs.Prelude.{ℕ, ◌+◌, ◌%◌, ◌^◌, ◌≤◌, ◌<◌, Bool, List, [], ◌≡◌, refl, eqb, length}
+use Rattle.std.specs.Prelude.{ℕ, ◌^◌, ◌<◌, Bool, List, [], ◌≡◌, refl, eqb, length}
 use Rattle.std.proofs.Math.Bool.{true, false}
-use Rattle.std.proofs.Common.{sym, ap, ◌∙◌, arith, le-ltb}
+use Rattle.std.proofs.Common.{ap, ◌∙◌, arith, le-ltb}
 use Rattle.octets.proofs.Choice.{either_way, cond_yes, cond_no}
 use Rattle.commands.specs.Commands.{start_answer}
 use Rattle.reader.specs.Reader.{fresh, payload_in}
@@ -10,7 +10,7 @@ use Rattle.reader.specs.declared.steps.Reader.{Reader}
 use Rattle.reader.specs.declared.steps.Heard.{Heard}
 use Rattle.reader.specs.declared.steps.Heard.TheVariants.{Nothing, Frame, Dropped}
 use Rattle.host.specs.Session.{arises}
-use Rattle.host.specs.Step.{Left, Wishes, opening_of}
+use Rattle.host.specs.Step.{Wishes, opening_of}
 use Rattle.host.specs.declared.session.Session.{Session}
 use Rattle.host_model.specs.declared.events.Event.{Event}
 use Rattle.host_model.specs.declared.events.Event.TheVariants as event
@@ -21,14 +21,14 @@ use Rattle.host_end.proofs.TextLaws.{followed_most}
 use Rattle.host_end.specs.HostEnd.{HostLeft, frame_heard, line_heard, heard_by, host_hears, host_waits}
 use Rattle.host_end.specs.declared.end.HostEnd.{HostEnd}
 use Rattle.posts.specs.PostLaws.{more_small}
-use Rattle.posts.specs.Caller.{caller_of, called_step, called_of, caller_hears, caller_waits}
+use Rattle.posts.specs.Caller.{called_step, called_of, caller_hears, caller_waits}
 use Rattle.posts.specs.declared.caller.Caller.{Caller}
 use Rattle.kept_reader.specs.Promises.{Whole}
 use Rattle.kept_reader.proofs.KeptRun.{fresh_whole, step_whole}
 use Rattle.kept_host.specs.Promises.{Real}
 use Rattle.kept_host.proofs.Run.{step_real, opening_real, wishes_known_law, wishes_back}
 use Rattle.kept_host.specs.Kept.{opening_by, BegunLeft, begun_as}
-use Rattle.kept_caller.specs.Kept.{caller_bytes, caller_kept, kept_as, kept_hears, kept_waits, opened_as, kept_opening, opened_with}
+use Rattle.kept_caller.specs.Kept.{caller_bytes, caller_kept, kept_as, kept_hears, kept_waits, kept_opening, opened_with}
 use Rattle.kept_caller.specs.Promises.{Keeps, KeptOpening, KeptCall}
 use Rattle.kept_caller.proofs.Back.{kept_back}
 

@@ -3,14 +3,12 @@ use Rattle.kept_host.specs.declared.opening.Begun.{Begun}
 use Rattle.std.specs.Prelude.{ℕ, ◌≤◌, List, [], ◌≡◌, length}
 use Rattle.std.proofs.Common.{sym, ap, ◌∙◌, le-ltb}
 use Rattle.octets.proofs.Choice.{cond_no}
-use Rattle.host.specs.Step.{Left, left}
-use Rattle.host.specs.declared.session.Stepped.{Stepped}
+use Rattle.host.specs.Step.{left}
 use Rattle.posts.specs.Caller.{CallerLeft, caller_left, caller_of}
 use Rattle.posts.specs.declared.caller.Caller.{Caller}
 use Rattle.posts.specs.declared.caller.CallerStep.{CallerStep}
-use Rattle.kept_host.specs.Kept.{Kept, kept, opened, told_of, opening_by, BegunLeft}
-use Rattle.kept_host.specs.declared.answers.Told.{Told}
-use Rattle.kept_caller.specs.Kept.{caller_bytes, caller_kept, kept_as, opened_as, kept_opening, opened_with}
+use Rattle.kept_host.specs.Kept.{Kept, kept, opened, opening_by, BegunLeft}
+use Rattle.kept_caller.specs.Kept.{caller_bytes, caller_kept, kept_as, kept_opening, opened_with}
 
 -- What a call leaves, put together: the step, and what it leaves beside its output.
 pub call_by : (st output after : List ℕ) (answer count passed : ℕ) (step : CallerStep) (l : CallerLeft)

@@ -10,7 +10,6 @@ use Rattle.kinds.specs.declared.Kind.TheVariants.{Navigation}
 use Rattle.reader.specs.Reader as reader
 use Rattle.reader.specs.Reader.{fresh}
 use Rattle.reader.specs.Moves as moves
-use Rattle.host_model.specs.Events.{number_in, count_in}
 use Rattle.host_model.specs.Nexts.{time_next}
 use Rattle.host_model.specs.Waits.{wait, wait_fits}
 use Rattle.host_model.specs.declared.plan.Rate.TheVariants.{R9600}

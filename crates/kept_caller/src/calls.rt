@@ -1,4 +1,5 @@
-// The calls: each reads the caller from the bytes, gives it a byte or a time, and puts it back. Every output number is written.
+// The calls: each reads the caller from the bytes, gives it a byte or a time, and puts it back. Every output number is written, each
+// after the room test, and answers are numbers, since C calls them so.
 ghost use Rattle.std.specs.Prelude.{[], ◌≡◌};
 ghost use Rattle.posts.specs.Caller.{caller_left};
 ghost use Rattle.kept_host.specs.Kept.{kept, opened};
@@ -83,10 +84,8 @@ pub fn wait(
 fn leave(step: CallerStep, state: &mut [u8], count: &mut usize, passed: &mut u8) -> u8
     ensures { kept result count.new passed.new state.new [] ≡ kept_as (caller_left step []) state.old }
 {
-    let caller = step.caller;
-    let answer = step.answer;
-    keep(caller, state);
-    let says = kept_host::told_of(answer);
+    keep(step.caller, state);
+    let says = kept_host::told_of(step.answer);
     *count = says.count;
     *passed = says.passed;
     says.number

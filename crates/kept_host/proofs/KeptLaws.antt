@@ -10,7 +10,6 @@ use Rattle.host_model.specs.Waits.{wait}
 use Rattle.host_model.specs.declared.plan.Rate.{Rate}
 use Rattle.flat.specs.Words.{spelled_all, recorded, stands_for}
 use Rattle.flat.specs.WordsLaws.{length_spelled_all}
-use Rattle.flat.specs.Found.{recorded_alone}
 use Rattle.host.specs.Step.{Left, left, step_of}
 use Rattle.host_model.specs.declared.waits.Phase.{Phase}
 use Rattle.host_model.specs.declared.waits.Phase.TheVariants.{Ended, EndedAt, Waiting}
@@ -18,7 +17,7 @@ use Rattle.host.specs.declared.session.Session.{Session}
 use Rattle.host_model.specs.declared.events.Event.{Event}
 use Rattle.host.specs.declared.session.Stepped.{Stepped}
 use Rattle.kept_host.specs.Record.{stage_place, rate_place, waited_place, repeats_place, record_words, record_bytes, ended_stage}
-use Rattle.kept_host.specs.Kept.{words_of, phase_words, rate_in, stage_in, plan_in, kind_phase, fields_in, session_in, kept_of, told_of, kept, kept_as, kept_step, opened, opened_as, BegunLeft, opened_with}
+use Rattle.kept_host.specs.Kept.{words_of, phase_words, rate_in, stage_in, plan_in, kind_phase, fields_in, session_in, kept_of, told_of, kept, kept_as, kept_step, opened, BegunLeft, opened_with}
 use Rattle.kept_host.specs.declared.answers.Told.{Told}
 
 -- ---- the record
@@ -33,14 +32,12 @@ pub words_count : (s : Session) → length (words_of s) ≡ record_words
 unfolding words_of
 words_count s = phase_count s.image s.phase
 
--- The record of the session read, written alone and compared with the front of the bytes, tells whether it stands there.
-pub compared : (st own after front : List ℕ) (s : Session) (same : Bool) → s ≡ fields_in st → length own ≡ record_bytes
-    → after ≡ recorded (words_of s) own → front ≡ part_of st 0 record_bytes → same ≡ same_bytes after front
-    → same ≡ stands_for (words_of (fields_in st)) st
+-- The record of the session read, compared with the front of the bytes, tells whether it stands there.
+pub compared : (st own front : List ℕ) (s : Session) (same : Bool) → s ≡ fields_in st → own ≡ spelled_all (words_of s)
+    → front ≡ part_of st 0 record_bytes → same ≡ same_bytes own front → same ≡ stands_for (words_of (fields_in st)) st
 unfolding stands_for
-compared st own after front s same read e writes part compares =
+compared st own front s same read all part compares =
     let size : length (spelled_all (words_of s)) ≡ record_bytes = length_spelled_all (words_of s) ∙ rw (words_count s) in
-    let all : after ≡ spelled_all (words_of s) = writes ∙ recorded_alone (words_of s) own (e ∙ rw (words_count s)) in
     compares
     ∙ rw (all, part)
     (ap (λ (n : ℕ). same_bytes (spelled_all (words_of s)) (part_of st 0 n)) (sym size)

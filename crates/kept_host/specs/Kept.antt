@@ -17,9 +17,9 @@ use Rattle.host_model.specs.declared.plan.Same.TheVariants.{GoOn, Stop}
 use Rattle.host_model.specs.declared.plan.Plan.{Plan}
 use Rattle.host_model.specs.declared.plan.Stage.{Stage}
 use Rattle.host_model.specs.declared.plan.Stage.TheVariants.{Text, Asking, Declaring, Sending, Noticing, Restarting}
-use Rattle.host.specs.Session.{session, stepped, arises}
+use Rattle.host.specs.Session.{session, arises}
 use Rattle.host_model.specs.Waits.{wait}
-use Rattle.host.specs.Step.{Left, left, Wishes, step_of, ended_of, opening_of}
+use Rattle.host.specs.Step.{Left, Wishes, step_of, ended_of, opening_of}
 use Rattle.host_model.specs.Events.{number_in, passed_in, count_in}
 use Rattle.host_model.specs.declared.waits.Wait.{Wait}
 use Rattle.host_model.specs.declared.waits.Phase.{Phase}
@@ -27,7 +27,6 @@ use Rattle.host_model.specs.declared.waits.Phase.TheVariants.{Ended, EndedAt, Wa
 use Rattle.host.specs.declared.session.Session.{Session}
 use Rattle.host_model.specs.declared.events.Event.{Event}
 use Rattle.host_model.specs.declared.events.Answer.{Answer}
-use Rattle.host_model.specs.declared.events.Answer.TheVariants.{Refused}
 use Rattle.kept_host.specs.Record.{image_place, wish_place, stage_place, type_place, first_place, rate_place, start_place, same_place, size_place, number_place, waited_place, repeats_place}
 use Rattle.kept_host.specs.Record.{record_bytes, ended_stage, text_stage, asking_stage, declaring_stage, sending_stage, noticing_stage, restarting_stage}
 use Rattle.kept_host.specs.declared.words.Staged.{Staged}

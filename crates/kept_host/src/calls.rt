@@ -1,4 +1,4 @@
-// The calls with bytes that keep a session. Every output number is written.
+// The calls with bytes that keep a session. Every output number is written, and answers are numbers, since C calls them so.
 ghost use Rattle.std.specs.Prelude.{◌≡◌, [], length};
 ghost use Rattle.host_model.specs.Views.{progress_of, line_number};
 ghost use Rattle.host.specs.Session.{session_progress, session_rate, session_repeats};
@@ -90,12 +90,9 @@ fn step(
     ensures { kept result count.new passed.new state.new out.new
         ≡ kept_step state.old event bytes.now image.now out.old }
 {
-    let session = session_in(state);
-    let stepped = session.step(event, bytes, image, out);
-    let next = stepped.session;
-    let answer = stepped.answer;
-    keep(next, state);
-    let says = told_of(answer);
+    let stepped = session_in(state).step(event, bytes, image, out);
+    keep(stepped.session, state);
+    let says = told_of(stepped.answer);
     *count = says.count;
     *passed = says.passed;
     says.number
@@ -128,15 +125,9 @@ pub fn resent(state: &[u8]) -> u32
 pub fn stage(state: &[u8]) -> u8
     ensures { result ≡ stage_number (session_in state.now).phase }
 {
-    let session = session_in(state);
-    let phase = session.phase;
-    match phase {
-        Phase::Ended => record::ENDED_STAGE as u8,
-        Phase::EndedAt { .. } => record::ENDED_STAGE as u8,
-        Phase::Waiting(wait) => {
-            let stage = wait.stage;
-            number_of(stage)
-        }
+    match session_in(state).phase {
+        Phase::Ended | Phase::EndedAt { .. } => record::ENDED_STAGE as u8,
+        Phase::Waiting(wait) => number_of(wait.stage),
     }
 }
 

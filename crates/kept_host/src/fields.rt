@@ -11,13 +11,10 @@ use stages::{Plan, Rate, Same, Stage, Start};
 pub(crate) fn fields_in(state: &[u8]) -> Session
     ensures { result ≡ fields_in state.now }
 {
-    let phase = phase_in(
-        kinds::kind_of(octets::two_at(state, record::TYPE_PLACE)),
-        state,
-    );
+    let kind = kinds::kind_of(octets::two_at(state, record::TYPE_PLACE));
     Session {
         image: flat::eight_at(state, record::IMAGE_PLACE),
-        phase: phase,
+        phase: phase_in(kind, state),
     }
 }
 
@@ -35,18 +32,15 @@ fn phase_in(known: Option<Kind>, state: &[u8]) -> Phase
 fn kind_phase(kind: Kind, state: &[u8]) -> Phase
     ensures { result ≡ kind_phase kind state.now }
 {
-    if octets::byte_at(state, record::STAGE_PLACE) as u32 == record::ENDED_STAGE {
-        let rate = rate_in(octets::byte_at(state, record::RATE_PLACE));
+    if u32::from(octets::byte_at(state, record::STAGE_PLACE)) == record::ENDED_STAGE {
         return Phase::EndedAt {
-            kind: kind,
-            rate: rate,
+            kind,
+            rate: rate_in(octets::byte_at(state, record::RATE_PLACE)),
         };
     }
-    let plan = plan_in(kind, state);
-    let stage = stage_in(state);
     Phase::Waiting(Wait {
-        plan: plan,
-        stage: stage,
+        plan: plan_in(kind, state),
+        stage: stage_in(state),
         waited: octets::four_at(state, record::WAITED_PLACE),
         repeats: octets::four_at(state, record::REPEATS_PLACE),
     })
@@ -55,15 +49,12 @@ fn kind_phase(kind: Kind, state: &[u8]) -> Phase
 fn plan_in(kind: Kind, state: &[u8]) -> Plan
     ensures { result ≡ plan_in kind state.now }
 {
-    let first = rate_in(octets::byte_at(state, record::FIRST_PLACE));
-    let start = start_in(octets::byte_at(state, record::START_PLACE));
-    let same = same_in(octets::byte_at(state, record::SAME_PLACE));
     Plan {
-        kind: kind,
-        first: first,
+        kind,
+        first: rate_in(octets::byte_at(state, record::FIRST_PLACE)),
         wish: flat::eight_at(state, record::WISH_PLACE),
-        start: start,
-        same: same,
+        start: start_in(octets::byte_at(state, record::START_PLACE)),
+        same: same_in(octets::byte_at(state, record::SAME_PLACE)),
     }
 }
 
@@ -71,7 +62,7 @@ fn stage_in(state: &[u8]) -> Stage
     ensures { result ≡ stage_in state.now }
 {
     stage_of(
-        octets::byte_at(state, record::STAGE_PLACE) as u32,
+        u32::from(octets::byte_at(state, record::STAGE_PLACE)),
         rate_in(octets::byte_at(state, record::RATE_PLACE)),
         octets::four_at(state, record::SIZE_PLACE) as usize,
         octets::four_at(state, record::NUMBER_PLACE) as usize,
@@ -86,19 +77,9 @@ fn stage_of(n: u32, rate: Rate, size: usize, number: usize) -> Stage
         record::TEXT_STAGE => Stage::Text,
         record::ASKING_STAGE => Stage::Asking(rate),
         record::DECLARING_STAGE => Stage::Declaring(rate),
-        record::SENDING_STAGE => Stage::Sending {
-            rate: rate,
-            size: size,
-            number: number,
-        },
-        record::NOTICING_STAGE => Stage::Noticing {
-            rate: rate,
-            size: size,
-        },
-        _ => Stage::Restarting {
-            rate: rate,
-            size: size,
-        },
+        record::SENDING_STAGE => Stage::Sending { rate, size, number },
+        record::NOTICING_STAGE => Stage::Noticing { rate, size },
+        _ => Stage::Restarting { rate, size },
     }
 }
 
@@ -106,29 +87,23 @@ fn stage_of(n: u32, rate: Rate, size: usize, number: usize) -> Stage
 pub(crate) fn rate_in(n: u8) -> Rate
     ensures { result ≡ rate_in n }
 {
-    match n {
-        2 => Rate::R19200,
-        3 => Rate::R38400,
-        4 => Rate::R57600,
-        5 => Rate::R115200,
-        _ => Rate::R9600,
-    }
+    Rate::try_from(n).unwrap_or(Rate::R9600)
 }
 
+#[tactic(auto, unfolding(crate::specs::Kept::start_in))]
 pub(crate) fn start_in(n: u8) -> Start
     ensures { result ≡ start_in n }
 {
-    match n {
-        1 => Start::WithText,
-        _ => Start::AtOnce,
+    if n == 1 {
+        Start::WithText
+    } else {
+        Start::AtOnce
     }
 }
 
+#[tactic(auto, unfolding(crate::specs::Kept::same_in))]
 pub(crate) fn same_in(n: u8) -> Same
     ensures { result ≡ same_in n }
 {
-    match n {
-        1 => Same::GoOn,
-        _ => Same::Stop,
-    }
+    if n == 1 { Same::GoOn } else { Same::Stop }
 }

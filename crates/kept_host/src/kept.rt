@@ -1,6 +1,6 @@
 // Sessions kept in bytes: whether bytes keep one, which, and another kept in its place.
 ghost use Rattle.std.specs.Prelude.{◌≡◌};
-ghost use Rattle.flat.specs.Words.{recorded};
+ghost use Rattle.flat.specs.Words.{recorded, spelled_all};
 ghost use Rattle.host.specs.Step.{ended_of};
 ghost use Rattle.kept_host.specs.Kept.{words_of, stands, session_in, kept_of};
 
@@ -13,8 +13,14 @@ use host::{Phase, Session};
 pub fn write(session: Session, state: &mut [u8])
     ensures { state.new ≡ recorded (words_of session) state.old }
 {
-    let words = words_of(session);
-    flat::store(&words, state);
+    flat::store(&words_of(session), state);
+}
+
+// The record of a session alone.
+pub fn record_of(session: Session) -> [u8; record::RECORD_BYTES]
+    ensures { result ≡ spelled_all (words_of session) }
+{
+    flat::spelled(&words_of(session))
 }
 
 // Whether the bytes begin with the record of a session that could arise; any others are taken as an ended one.
@@ -22,12 +28,8 @@ pub fn stands(state: &[u8]) -> bool
     ensures { result ≡ stands state.now }
 {
     let session = fields_in(state);
-    let mut own = [0u8; record::RECORD_BYTES];
-    write(session, &mut own);
-    if !octets::same(&own, octets::part(state, 0, record::RECORD_BYTES)) {
-        return false;
-    }
-    session.can_arise()
+    let front = octets::part(state, 0, record::RECORD_BYTES);
+    octets::same(&record_of(session), front) && session.can_arise()
 }
 
 // The session that the bytes keep; any others keep an ended one over the image length that is in them.

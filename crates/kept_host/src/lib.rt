@@ -11,6 +11,6 @@ mod words;
 
 pub use answers::{Told, told_of};
 pub use calls::{frame, line, line_rate, progress, resent, stage, wait};
-pub use kept::{session_in, stands, write};
+pub use kept::{record_of, session_in, stands, write};
 pub use opening::{Begun, begin, open};
 pub use record::RECORD_BYTES;

@@ -80,17 +80,9 @@ pub fn begin(
 }
 
 // Whether a rate is 1 to 5 and start and same are 0 or 1.
+#[tactic(auto, unfolding(crate::specs::Kept::wishes_known))]
 fn known(first: u8, start: u8, same: u8) -> bool
     ensures { result ≡ wishes_known first start same }
 {
-    if first < 1 {
-        return false;
-    }
-    if 5 < first {
-        return false;
-    }
-    if 1 < start {
-        return false;
-    }
-    same <= 1
+    (1..=5).contains(&first) && start <= 1 && same <= 1
 }

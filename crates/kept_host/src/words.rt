@@ -18,18 +18,14 @@ pub(crate) struct Staged {
 pub(crate) fn words_of(session: Session) -> [u32; record::RECORD_WORDS]
     ensures { result ≡ words_of session }
 {
-    let phase = session.phase;
-    match phase {
+    match session.phase {
         Phase::Ended => ended_words(session.image, 0, 0),
         Phase::EndedAt { kind, rate } => ended_words(
             session.image,
-            kinds::number_of(kind) as u32,
-            rate_number(rate) as u32,
+            u32::from(kinds::number_of(kind)),
+            u32::from(rate_number(rate)),
         ),
-        Phase::Waiting(wait) => {
-            let stage = wait.stage;
-            wait_words(session.image, stage_words(stage), wait)
-        }
+        Phase::Waiting(wait) => wait_words(session.image, stage_words(wait.stage), wait),
     }
 }
 
@@ -59,21 +55,17 @@ fn wait_words(image: usize, staged: Staged, wait: Wait) -> [u32; record::RECORD_
     ensures { result ≡ wait_words image staged wait }
 {
     let plan = wait.plan;
-    let kind = plan.kind;
-    let first = plan.first;
-    let start = plan.start;
-    let same = plan.same;
     [
         flat::low(image),
         flat::high(image),
         flat::low(plan.wish),
         flat::high(plan.wish),
         staged.stage,
-        kinds::number_of(kind) as u32,
-        rate_number(first) as u32,
+        u32::from(kinds::number_of(plan.kind)),
+        u32::from(rate_number(plan.first)),
         staged.rate,
-        start_number(start),
-        same_number(same),
+        start_number(plan.start),
+        same_number(plan.same),
         staged.size,
         staged.number,
         wait.waited,
@@ -109,8 +101,8 @@ fn stage_at(stage: u32, rate: Rate, size: usize, number: usize) -> Staged
     ensures { result ≡ stage_at stage rate size number }
 {
     Staged {
-        stage: stage,
-        rate: rate_number(rate) as u32,
+        stage,
+        rate: u32::from(rate_number(rate)),
         size: flat::low(size),
         number: flat::low(number),
     }

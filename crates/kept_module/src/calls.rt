@@ -1,4 +1,5 @@
-// The calls: each reads the session from the bytes, gives it the event and writes it back.
+// The calls: each reads the session from the bytes, gives it the event and writes it back. Answers are numbers and the count is lent, since
+// C calls them so.
 ghost use Rattle.std.specs.Prelude.{◌≡◌, [], length};
 ghost use Rattle.module.specs.Session.{takes};
 ghost use Rattle.module_model.specs.Answers.{number_in, count_in};
@@ -18,10 +19,8 @@ pub fn open(state: &mut [u8], flash: &[u8]) -> u8
         return Refusal::NoRoom.number();
     }
     let first = Session::opening(flash);
-    let session = first.session;
-    let answer = first.answer;
-    write(session, state);
-    number_of(answer)
+    write(first.session, state);
+    number_of(first.answer)
 }
 
 // Whether the session in the bytes takes events.
@@ -81,11 +80,9 @@ fn step(
     let fields = fields_in(state);
     let genuine = stands(fields, state);
     let next = session_of(genuine, fields).step(event, payload, flash, reply);
-    let after = next.session;
-    let answer = next.answer;
-    keep(genuine, after, state);
-    *count = count_of(answer);
-    number_of(answer)
+    keep(genuine, next.session, state);
+    *count = count_of(next.answer);
+    number_of(next.answer)
 }
 
 // An answer as a number, and the bytes that it sends.
@@ -103,8 +100,7 @@ pub fn count_of(answer: Answer) -> usize
     ensures { result ≡ count_in answer }
 {
     match answer {
-        Answer::Nothing => 0,
         Answer::Sent(n) => n,
-        Answer::Refused(_) => 0,
+        Answer::Nothing | Answer::Refused(_) => 0,
     }
 }

@@ -8,4 +8,4 @@ mod writing;
 
 pub use calls::{count_of, frame, is_open, number_of, open, session_in, wait};
 pub use record::RECORD_BYTES;
-pub use writing::write;
+pub use writing::{record_of, write};

@@ -59,11 +59,7 @@ fn transfer_in(state: &[u8]) -> Transfer
 fn kind_in(state: &[u8]) -> Kind
     ensures { result ≡ kind_in state.now }
 {
-    let known = kinds::kind_of(octets::two_at(state, record::TYPE_PLACE));
-    match known {
-        Some(kind) => kind,
-        None => Kind::Navigation,
-    }
+    kinds::kind_of(octets::two_at(state, record::TYPE_PLACE)).unwrap_or(Kind::Navigation)
 }
 
 fn word_at(state: &[u8], at: usize) -> usize

@@ -1,7 +1,7 @@
 // A session as the words of its record, and whether some bytes are that record.
 ghost use Rattle.std.specs.Prelude.{◌≡◌, cond};
 ghost use Rattle.kinds.specs.Kinds.{number_of};
-ghost use Rattle.flat.specs.Words.{recorded, stands_for};
+ghost use Rattle.flat.specs.Words.{recorded, spelled_all, stands_for};
 ghost use Rattle.kept_module.specs.Kept.{row_of, pieces_row, words_of};
 
 use crate::record;
@@ -12,55 +12,44 @@ use module::{Phase, Pieces, Session};
 pub(crate) fn words_of(session: Session) -> [u32; record::RECORD_WORDS]
     ensures { result ≡ words_of session }
 {
-    let flash = session.flash;
-    let idle = session.idle;
-    let phase = session.phase;
-    match phase {
-        Phase::Closed => row(flash, idle, record::CLOSED_PHASE, 0, 0, 0, 0, 0),
-        Phase::Ready => row(flash, idle, record::READY_PHASE, 0, 0, 0, 0, 0),
-        Phase::Begun(transfer) => {
-            let kind = transfer.kind;
-            row(
-                flash,
-                idle,
-                record::BEGUN_PHASE,
-                type_of(kind),
-                transfer.extent,
-                0,
-                0,
-                0,
-            )
-        }
+    match session.phase {
+        Phase::Closed => row(session, record::CLOSED_PHASE, 0, 0, 0, 0, 0),
+        Phase::Ready => row(session, record::READY_PHASE, 0, 0, 0, 0, 0),
+        Phase::Begun(transfer) => row(
+            session,
+            record::BEGUN_PHASE,
+            type_of(transfer.kind),
+            transfer.extent,
+            0,
+            0,
+            0,
+        ),
         Phase::Loading {
             pieces,
             number,
             written,
-        } => pieces_row(flash, idle, record::LOADING_PHASE, pieces, number, written),
+        } => pieces_row(session, record::LOADING_PHASE, pieces, number, written),
         Phase::Done { pieces, written } => {
-            pieces_row(flash, idle, record::DONE_PHASE, pieces, 0, written)
+            pieces_row(session, record::DONE_PHASE, pieces, 0, written)
         }
     }
 }
 
 // The words of a session whose pieces are set.
 fn pieces_row(
-    flash: usize,
-    idle: u32,
+    session: Session,
     phase: u32,
     pieces: Pieces,
     number: usize,
     written: usize,
 ) -> [u32; record::RECORD_WORDS]
-    ensures { result ≡ pieces_row flash idle phase pieces number written }
+    ensures { result ≡ pieces_row session.flash session.idle phase pieces number written }
 {
-    let transfer = pieces.transfer;
-    let kind = transfer.kind;
     row(
-        flash,
-        idle,
+        session,
         phase,
-        type_of(kind),
-        transfer.extent,
+        type_of(pieces.transfer.kind),
+        pieces.transfer.extent,
         pieces.size,
         number,
         written,
@@ -68,8 +57,7 @@ fn pieces_row(
 }
 
 fn row(
-    flash: usize,
-    idle: u32,
+    session: Session,
     phase: u32,
     kind: u32,
     extent: usize,
@@ -77,12 +65,12 @@ fn row(
     number: usize,
     written: usize,
 ) -> [u32; record::RECORD_WORDS]
-    ensures { result ≡ row_of flash idle phase kind extent size number written }
+    ensures { result ≡ row_of session.flash session.idle phase kind extent size number written }
 {
     [
-        flat::low(flash),
-        flat::high(flash),
-        idle,
+        flat::low(session.flash),
+        flat::high(session.flash),
+        session.idle,
         phase,
         kind,
         flat::low(extent),
@@ -96,7 +84,7 @@ fn row(
 fn type_of(kind: Kind) -> u32
     ensures { result ≡ number_of kind }
 {
-    kinds::number_of(kind) as u32
+    u32::from(kinds::number_of(kind))
 }
 
 // The record of a session, at the front of the bytes.
@@ -106,13 +94,21 @@ pub fn write(session: Session, state: &mut [u8])
     flat::store(&words_of(session), state);
 }
 
+// The record of a session alone.
+pub fn record_of(session: Session) -> [u8; record::RECORD_BYTES]
+    ensures { result ≡ spelled_all (words_of session) }
+{
+    flat::spelled(&words_of(session))
+}
+
 // Whether the front of the bytes is the record of a session.
 pub(crate) fn stands(session: Session, state: &[u8]) -> bool
     ensures { result ≡ stands_for (words_of session) state.now }
 {
-    let mut bytes = [0u8; record::RECORD_BYTES];
-    write(session, &mut bytes);
-    octets::same(&bytes, octets::part(state, 0, record::RECORD_BYTES))
+    octets::same(
+        &record_of(session),
+        octets::part(state, 0, record::RECORD_BYTES),
+    )
 }
 
 // Writes a session over the record in the bytes, if there was one.

@@ -1,7 +1,7 @@
 -- Calls through kept bytes are the post's own.
-use Rattle.std.specs.Prelude.{ℕ, ◌+◌, ◌%◌, ◌^◌, ◌≤◌, ◌<◌, Bool, true, false, ◌≡◌, refl, eqb, ltb, length}
+use Rattle.std.specs.Prelude.{ℕ, ◌^◌, ◌<◌, true, ◌≡◌, refl, eqb, ltb, length}
 use mathlib.Core.List.{List, [], Memᴰ}
-use Rattle.std.proofs.Common.{sym, ap, ◌∙◌, arith, le-ltb}
+use Rattle.std.proofs.Common.{ap, ◌∙◌, arith, le-ltb}
 use Rattle.octets.specs.Octets.{Bytes}
 use Rattle.octets.proofs.Choice.{either_way, cond_no}
 use Rattle.wire.specs.Frame.{Frame, frame}
@@ -16,7 +16,7 @@ use Rattle.module.specs.declared.session.Session.{Session}
 use Rattle.module_model.specs.declared.events.Event.{Event}
 use Rattle.module_model.specs.declared.events.Event.TheVariants as event
 use Rattle.module_promises.specs.Runs.{Given, next_of}
-use Rattle.module_promises.specs.Promises.{opened, online}
+use Rattle.module_promises.specs.Promises.{online}
 use Rattle.module_promises.proofs.Arises.{step_arises, opening_arises}
 use Rattle.host_end.specs.Text.{followed}
 use Rattle.host_end.proofs.TextLaws.{followed_most}

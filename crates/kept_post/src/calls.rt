@@ -1,4 +1,5 @@
-// The calls: each reads the post from the bytes, gives it a byte or a time, and puts it back. Every output number is written.
+// The calls: each reads the post from the bytes, gives it a byte or a time, and puts it back. Every output number is written, each
+// after the room test, and answers are numbers, since C calls them so.
 ghost use Rattle.std.specs.Prelude.{[], ◌≡◌};
 ghost use Rattle.posts.specs.Post.{post_left};
 ghost use Rattle.kept_module.specs.Kept.{kept, opened};
@@ -59,9 +60,7 @@ pub fn wait(state: &mut [u8], ms: u32, flash: &mut [u8], reply: &mut [u8], count
 fn leave(step: PostStep, state: &mut [u8], count: &mut usize) -> u8
     ensures { kept result count.new state.new [] [] ≡ kept_as (post_left step [] []) state.old }
 {
-    let post = step.post;
-    let answer = step.answer;
-    keep(post, state);
-    *count = kept_module::count_of(answer);
-    kept_module::number_of(answer)
+    keep(step.post, state);
+    *count = kept_module::count_of(step.answer);
+    kept_module::number_of(step.answer)
 }

@@ -12,7 +12,6 @@ ghost use Rattle.kept_reader.specs.Kept.{
   stands,
   reader_in,
   reader_kept,
-  flag,
   kept_new,
   kept_step,
 };
@@ -59,11 +58,10 @@ pub fn step(state: &mut [u8], byte: u8, command: &mut u8, count: &mut usize) -> 
         return Refusal::NoRoom.number();
     }
     let stepped = reader_in(state).step(byte);
-    let heard = stepped.heard;
     keep(stepped.reader, state);
-    *command = command_of(heard);
-    *count = count_of(heard);
-    number_of(heard)
+    *command = command_of(stepped.heard);
+    *count = count_of(stepped.heard);
+    number_of(stepped.heard)
 }
 
 // The reader in some bytes; a fresh one where they stand for none.
@@ -75,26 +73,21 @@ pub fn reader_in(state: &[u8]) -> Reader
     }
     Reader {
         store: store_in(state),
-        count: flat::wide(octets::four_at(state, COUNT)),
+        count: octets::four_at(state, COUNT) as usize,
         opened: octets::four_at(state, OPENED) == 1,
         pending: octets::four_at(state, PENDING) == 1,
     }
 }
 
 // Whether there is room for a reader, and count and flags are those of one.
+#[tactic(auto, unfolding(crate::specs::Kept::stands))]
 fn stands_for_one(state: &[u8]) -> bool
     ensures { result ≡ stands state.now }
 {
-    if state.len() < READER_BYTES {
-        return false;
-    }
-    if COUNT_MOST < octets::four_at(state, COUNT) {
-        return false;
-    }
-    if 1 < octets::four_at(state, OPENED) {
-        return false;
-    }
-    octets::four_at(state, PENDING) <= 1
+    state.len() >= READER_BYTES
+        && octets::four_at(state, COUNT) <= COUNT_MOST
+        && octets::four_at(state, OPENED) <= 1
+        && octets::four_at(state, PENDING) <= 1
 }
 
 fn store_in(state: &[u8]) -> [u8; CONTENT_MOST]
@@ -115,18 +108,11 @@ pub fn keep(reader: Reader, state: &mut [u8])
     }
     let words = [
         flat::low(reader.count),
-        flag_of(reader.opened),
-        flag_of(reader.pending),
+        u32::from(reader.opened),
+        u32::from(reader.pending),
     ];
-    let store = reader.store;
     flat::store(&words, state);
-    octets::copy(&store, state, STORE);
-}
-
-fn flag_of(set: bool) -> u32
-    ensures { result ≡ flag set }
-{
-    if set { 1 } else { 0 }
+    octets::copy(&reader.store, state, STORE);
 }
 
 fn number_of(heard: Heard) -> u8
@@ -134,7 +120,7 @@ fn number_of(heard: Heard) -> u8
 {
     match heard {
         Heard::Nothing => flat::NOTHING,
-        Heard::Frame { command, count } => flat::FRAME,
+        Heard::Frame { .. } => flat::FRAME,
         Heard::Dropped => flat::DROPPED,
     }
 }
@@ -143,9 +129,8 @@ fn command_of(heard: Heard) -> u8
     ensures { result ≡ command_in heard }
 {
     match heard {
-        Heard::Nothing => 0,
-        Heard::Frame { command, count } => command,
-        Heard::Dropped => 0,
+        Heard::Frame { command, .. } => command,
+        Heard::Nothing | Heard::Dropped => 0,
     }
 }
 
@@ -153,8 +138,7 @@ fn count_of(heard: Heard) -> usize
     ensures { result ≡ count_in heard }
 {
     match heard {
-        Heard::Nothing => 0,
-        Heard::Frame { command, count } => count,
-        Heard::Dropped => 0,
+        Heard::Frame { count, .. } => count,
+        Heard::Nothing | Heard::Dropped => 0,
     }
 }

@@ -1,6 +1,6 @@
 -- What a step leaves in the first bytes of a reply buffer is what it leaves in all of it.
 use Rattle.std.specs.Prelude.{ℕ, ◌+◌, ◌≤◌, Bool, true, false, cond, List, [], ◌∷◌, ◌++◌, ◌≡◌, refl, length, take, drop, eqb, ◌-◌}
-use Rattle.std.proofs.Common.{sym, ap, ◌∙◌, arith, length-append, append_assoc, length-take-le, take-append-drop}
+use Rattle.std.proofs.Common.{sym, ap, ◌∙◌, arith, length-append, append_assoc, append-nil, length-take-le, take-append-drop}
 use Rattle.std.proofs.lemmas.List.{drop-append-le}
 use borrow.Author.Tests.{le-ltb}
 use Rattle.octets.specs.Octets.{over, spelled}
@@ -19,7 +19,7 @@ use Rattle.module_model.specs.declared.events.Answer.TheVariants.{Refused}
 use Rattle.module_model.specs.declared.events.Answer.TheVariants as answer
 use Rattle.module.specs.Session.{stepped, takes}
 use Rattle.module.specs.StepLaws.{Wrote, sent_two}
-use Rattle.wire.specs.Frame.{Frame}
+use Rattle.wire.specs.Frame.{Frame, wire_of}
 use Rattle.module.specs.Step.{Left, left, smallest_reply, wires_of, performed, frame_step, time_step, event_step, step_of}
 
 -- All that is said at once takes at most 36 bytes.
@@ -82,3 +82,12 @@ pub sent_in : (f g : Frame) (n m k : ℕ) (before mid after : List ℕ) → k �
     → Wrote g m (take (k - n) (drop n mid)) after
     → (n + m ≡ length (wires_of (f ∷ g ∷ []))) × (take n mid ++ (after ++ drop (k - n) (drop n mid)) ≡ over (wires_of (f ∷ g ∷ [])) before)
 sent_in f g n m k before mid after size v w = rw size (sent_two f g n m before mid after v (rw size at w))
+
+-- No frame has no wire form, and one has one.
+pub wires_none : (reply : List ℕ) → over (wires_of []) reply ≡ reply
+unfolding wires_of over
+wires_none reply = refl
+
+pub wires_one : (f : Frame) → wires_of (f ∷ []) ≡ wire_of f
+unfolding wires_of
+wires_one f = append-nil (wire_of f)

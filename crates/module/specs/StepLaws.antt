@@ -1,6 +1,6 @@
 -- The laws of Step: wire forms written into the reply buffer, one behind the other.
 use Rattle.refusals.specs.declared.Refusal.{Refusal}
-use Rattle.std.specs.Prelude.{ℕ, ◌+◌, ◌-◌, ◌≤◌, ◌<◌, true, false, ◌≡◌, refl, take, drop, Err, Ok, Result}
+use Rattle.std.specs.Prelude.{ℕ, ◌+◌, ◌-◌, ◌≤◌, ◌<◌, true, false, ◌≡◌, refl, take, drop, Result}
 use mathlib.Core.List.{List, [], ◌∷◌, ◌++◌, append_assoc, append-nil}
 use Rattle.std.proofs.Common.{sym, ◌∙◌, arith, length-append, length-drop, drop_of_length-le, drop_at, drop-drop}
 use Rattle.std.proofs.Math.Path.{ap}
@@ -8,25 +8,21 @@ use borrow.Author.Tests.{lt-ltb, le-ltb, eq-eqb, ne_eqb}
 use Rattle.std.proofs.Math.ListN.{length}
 use Rattle.octets.proofs.Lists.{rest_part}
 use Rattle.octets.specs.Octets.{part_of, over}
-use Rattle.octets.proofs.OctetsLaws.{over_nil, take_over}
+use Rattle.octets.proofs.OctetsLaws.{take_over}
+use Rattle.std.specs.Result.{result_unwrap_or}
 use Rattle.refusals.specs.Refusals.{no_room, wrong_length}
 use Rattle.refusals.specs.Written.{Out}
 use Rattle.refusals.specs.Written as written
-use Rattle.wire.specs.Frame.{Frame, content_of, wire_of}
+use Rattle.wire.specs.Frame.{Frame, wire_of}
 use Rattle.wire.specs.Write.{write_of}
-use Rattle.wire.specs.WriteLaws.{wire_size, wire_most, write_done}
-use Rattle.module_model.specs.Rules.{frames_of, put_of, decide_of}
-use Rattle.module.specs.Session.{session, stepped, takes}
-use Rattle.module.specs.Step.{left, smallest_reply, wires_of, answer_of, performed, frame_step, time_step, event_step, step_of}
+use Rattle.wire.specs.WriteLaws.{wire_most, write_done}
+use Rattle.module.specs.Session.{stepped, takes}
+use Rattle.module.specs.Step.{left, smallest_reply, wires_of, frame_step, time_step, event_step, step_of}
 use Rattle.module_model.specs.declared.events.Event.{Event}
 use Rattle.module_model.specs.declared.events.Event.TheVariants.{Elapsed}
 use Rattle.module_model.specs.declared.events.Event.TheVariants as event
-use Rattle.module_model.specs.declared.events.Answer.{Answer}
-use Rattle.module_model.specs.declared.events.Answer.TheVariants.{Sent, Refused}
+use Rattle.module_model.specs.declared.events.Answer.TheVariants.{Refused}
 use Rattle.module_model.specs.declared.events.Answer.TheVariants as answer
-use Rattle.module_model.specs.declared.rules.Decision.{Decision}
-use Rattle.module_model.specs.declared.rules.Say.{Say}
-use Rattle.module_model.specs.declared.rules.Say.TheVariants.{Nothing}
 use Rattle.module.specs.declared.session.Session.{Session}
 
 -- A short frame has at most three payload bytes, and its wire form at most 18.
@@ -47,39 +43,13 @@ module _ (f : Frame) (before : List ℕ) (few : length f.payload ≤ short_paylo
   written_done : write_of f before ≡ written.written (wire_of f) before
   written_done = write_done f before (omega arith) (omega (arith, wire_most f))
 
-  pub wrote_one : (answer : Result ℕ Refusal) (n : ℕ) (after : List ℕ) → record { answer = answer; output = after } ≡ write_of f before
-      → answer ≡ Ok n → Wrote f n before after
-  wrote_one answer n after e told =
+  -- So what is counted is its wire form, whatever a refusal would count for.
+  pub wrote : (answer : Result ℕ Refusal) (n : ℕ) (after : List ℕ) → record { answer = answer; output = after } ≡ write_of f before
+      → n ≡ result_unwrap_or answer 0 → Wrote f n before after
+  wrote answer n after e told =
       let all : ◌≡◌ {A = Out} (record { answer = answer; output = after }) (written.written (wire_of f) before) = e ∙ written_done in
-      let count : n ≡ length (wire_of f) = ap written.count_in (sym told) ∙ ap (λ o. written.count_in o.answer) all in
+      let count : n ≡ length (wire_of f) = told ∙ ap (λ o. result_unwrap_or o.answer 0) all in
       record { count = count; most = omega (arith, count, wire_most f); front = ap (λ o. o.output) all }
-
-  pub wrote_never : (answer : Result ℕ Refusal) (n : Refusal) (after : List ℕ) → record { answer = answer; output = after } ≡ write_of f before
-      → answer ≡ Err n → ⊥
-  unfolding wire_of
-  wrote_never answer n after e told =
-      let none : 0 ≡ length (wire_of f) = ap written.count_in (sym told) ∙ ap (λ o. written.count_in o.answer) (e ∙ written_done) in
-      omega (arith, none, wire_size (content_of f))
-
--- What is said is answered and stands in the reply buffer.
-abbrev pub Replied : Say → Answer → List ℕ → List ℕ → Type 0
-Replied say answer before after = (answer ≡ answer_of (frames_of say)) × (after ≡ over (wires_of (frames_of say)) before)
-
--- This holds of what is said, whatever name it has.
-pub replied_same : (say said : Say) (answer : Answer) (before after : List ℕ) → say ≡ said → Replied said answer before after
-    → Replied say answer before after
-replied_same say said answer before after e h = rw e h
-
--- Where nothing is said, the buffer is as lent.
-pub replied_nothing : (reply : List ℕ) → Replied Nothing answer.Nothing reply reply
-unfolding wires_of
-replied_nothing reply = (refl, sym (over_nil reply))
-
--- One frame is sent.
-pub sent_one : (f : Frame) (n : ℕ) (before after : List ℕ) → Wrote f n before after
-    → (Sent n ≡ answer_of (f ∷ [])) × (after ≡ over (wires_of (f ∷ [])) before)
-unfolding wires_of
-sent_one f n before after w = rw (append-nil (wire_of f)) (ap Sent w.count, w.front)
 
 -- A run written over what lies behind a front, put back there, is written behind the front.
 pub over_behind : (front s out after : List ℕ) (n k : ℕ) → length front ≡ n → k ≡ length (over front out) - n
@@ -117,15 +87,7 @@ sent_two f g n m before mid after v w =
     rw (append-nil (wire_of g), first)
     (size, over_behind (wire_of f) (wire_of g) before after n (length (over (wire_of f) before) - n) (sym v.count) refl second)
 
--- ---- a frame and a step
-
--- What was decided, put and said is what a frame given to an open session leaves.
-pub frame_done : (s : Session) (command : ℕ) (payload flash reply : List ℕ) (d : Decision) (a : Answer) (stored sent : List ℕ)
-    → d ≡ decide_of s.phase command payload flash → stored ≡ put_of d.put payload flash → Replied d.say a reply sent
-    → left (stepped (session s.flash 0 d.phase) a) stored sent ≡ frame_step s command payload flash reply
-unfolding frame_step
-frame_done s command payload flash reply d a stored sent decided put said =
-    rw (put, said.0, said.1) (ap (λ (x : Decision). performed s x payload flash reply) decided)
+-- ---- a step
 
 -- The ways of a step, in their order: 2, 3, closed, and the event, a frame or time.
 module _ (s : Session) (e : Event) (payload flash reply : List ℕ) where

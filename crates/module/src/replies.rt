@@ -8,23 +8,22 @@ ghost use Rattle.module.specs.Step.{wires_of, answer_of};
 ghost use Rattle.module.specs.StepLaws.{short_payload, short_wire, Wrote};
 
 use module_model::{Answer, SMALLEST_REPLY, Say};
-use refusals::Refusal;
 
 // Room for all that is said at once.
 pub(crate) type Reply = [u8; SMALLEST_REPLY];
 
 // Writes what is to be said at the front of the reply buffer.
+#[tactic(auto, using(crate::proofs::Room::wires_none, crate::proofs::Room::wires_one), unfolding(octets::specs::Octets::spelled))]
 pub(crate) fn send(say: Say, reply: &mut Reply) -> Answer
     ensures { (result ≡ answer_of (frames_of say)) × (reply.new ≡ over (wires_of (frames_of say)) reply.old) }
 {
     match say {
         Say::Nothing => Answer::Nothing,
         Say::Rate { rate, ack } => Answer::Sent(one(commands::RATE, &[rate, ack], reply)),
-        Say::Parameters { ack } => Answer::Sent(one(
-            commands::PARAMETERS,
-            &[0x00, 0x04, ack],
-            reply,
-        )),
+        Say::Parameters { ack } => {
+            let [low, high, ..] = commands::LARGEST_PACKET.to_le_bytes();
+            Answer::Sent(one(commands::PARAMETERS, &[low, high, ack], reply))
+        }
         Say::Packet { number, ack } => Answer::Sent(packet(number, ack, reply)),
         Say::Last { number, state } => Answer::Sent(last(number, state, reply)),
         Say::Restart { ack } => Answer::Sent(one(commands::RESTART, &[ack], reply)),
@@ -32,14 +31,12 @@ pub(crate) fn send(say: Say, reply: &mut Reply) -> Answer
 }
 
 // The acknowledgement of a packet.
+#[tactic(auto, unfolding(octets::specs::Octets::spelled))]
 fn packet(number: usize, ack: u8, reply: &mut Reply) -> usize
     ensures { Wrote (packet_reply number ack) result reply.old reply.new }
 {
-    one(
-        commands::PACKET,
-        &[(number % 256) as u8, (number / 256 % 256) as u8, ack],
-        reply,
-    )
+    let [low, high, ..] = number.to_le_bytes();
+    one(commands::PACKET, &[low, high, ack], reply)
 }
 
 // The acknowledgement of the last packet, and the notice behind it.
@@ -56,8 +53,5 @@ fn one(command: u8, payload: &[u8], reply: &mut [u8]) -> usize
     requires { (length payload.now ≤ short_payload) × (short_wire ≤ length reply.old) }
     ensures { Wrote (frame command payload.now) result reply.old reply.new }
 {
-    match wire::write(command, payload, reply) {
-        Ok(n) => n,
-        Err(_) => 0,
-    }
+    wire::write(command, payload, reply).unwrap_or(0)
 }

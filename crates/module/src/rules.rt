@@ -124,22 +124,12 @@ fn parameters(phase: Phase, payload: &[u8], flash: usize) -> Decision
     ensures { result ≡ parameters_decision phase payload.now flash }
 {
     if payload.len() != PARAMETERS_LENGTH {
-        return unmoved_say(
-            phase,
-            Say::Parameters {
-                ack: commands::NOT_UNDERSTOOD,
-            },
-        );
+        return parameters_say(phase, commands::NOT_UNDERSTOOD);
     }
-    match kinds::kind_of(octets::two_at(payload, TYPE_AT)) {
-        Some(kind) => parameters_of(phase, kind, payload, flash),
-        None => unmoved_say(
-            phase,
-            Say::Parameters {
-                ack: commands::WRONG_FIRST,
-            },
-        ),
-    }
+    let Some(kind) = kinds::kind_of(octets::two_at(payload, TYPE_AT)) else {
+        return parameters_say(phase, commands::WRONG_FIRST);
+    };
+    parameters_of(phase, kind, payload, flash)
 }
 
 #[tactic(auto, unfolding(module_model::specs::Rules::kind_decision))]
@@ -147,28 +137,19 @@ fn parameters_of(phase: Phase, kind: Kind, payload: &[u8], flash: usize) -> Deci
     ensures { result ≡ kind_decision phase kind payload.now flash }
 {
     if octets::four_at(payload, ADDRESS_AT) != kinds::token_of(kind) {
-        return unmoved_say(
-            phase,
-            Say::Parameters {
-                ack: commands::NOT_UNDERSTOOD,
-            },
-        );
+        return parameters_say(phase, commands::NOT_UNDERSTOOD);
     }
     let extent = octets::four_at(payload, LENGTH_AT) as usize;
     if !kinds::fits_flash(kind, extent, flash) {
-        return unmoved_say(
-            phase,
-            Say::Parameters {
-                ack: commands::WRONG_SECOND,
-            },
-        );
+        return parameters_say(phase, commands::WRONG_SECOND);
     }
-    unmoved_say(
-        Phase::Begun(Transfer { kind, extent }),
-        Say::Parameters {
-            ack: commands::ACCEPTED,
-        },
-    )
+    parameters_say(Phase::Begun(Transfer { kind, extent }), commands::ACCEPTED)
+}
+
+fn parameters_say(phase: Phase, ack: u8) -> Decision
+    ensures { result ≡ unmoved phase (Say.Parameters ack) }
+{
+    unmoved_say(phase, Say::Parameters { ack })
 }
 
 // 0x06: restart closes the session.
@@ -307,15 +288,12 @@ impl Place {
     }
 
     // A repeat has the same bytes as the flash, too.
-    #[tactic(auto, unfolding(module_model::specs::Rules::is_repeat))]
+    #[tactic(auto, using(octets::proofs::Words::same_pointwise), unfolding(module_model::specs::Rules::is_repeat))]
     fn is_repeat(self, packet: Packet, flash: &[u8]) -> bool
         ensures { result ≡ is_repeat self.pieces self.number packet.entry.numbers packet.entry.bytes.now flash.now }
     {
         self.is_packet(packet.numbers)
-            && octets::same(
-                packet.bytes,
-                octets::part(flash, self.start(), packet.numbers.size),
-            )
+            && packet.bytes == octets::part(flash, self.start(), packet.numbers.size)
     }
 
     // An accepted packet goes to its place, and the session moves on.

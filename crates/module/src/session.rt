@@ -36,25 +36,19 @@ impl Session {
     pub fn opening(flash: &[u8]) -> Stepped
         ensures { result ≡ opening_of flash.now }
     {
-        let extent = flash.len();
-        if can_open(extent) {
-            return Stepped {
-                session: Session {
-                    flash: extent,
-                    idle: 0,
-                    phase: Phase::Ready,
-                },
-                answer: Answer::Nothing,
-            };
+        let closed = Session {
+            flash: flash.len(),
+            idle: 0,
+            phase: Phase::Closed,
+        };
+        if can_open(closed.flash) {
+            return Session {
+                phase: Phase::Ready,
+                ..closed
+            }
+            .answers(Answer::Nothing);
         }
-        Stepped {
-            session: Session {
-                flash: extent,
-                idle: 0,
-                phase: Phase::Closed,
-            },
-            answer: Answer::Refused(Refusal::WrongLength),
-        }
+        closed.answers(Answer::Refused(Refusal::WrongLength))
     }
 
     // Whether the session takes events: it is open, and its numbers could arise.
@@ -66,7 +60,7 @@ impl Session {
     }
 
     // Takes one event. The payload is the first count bytes of the slice, or all of it where it is shorter.
-    #[tactic(auto, unfolding(crate::specs::Step::step_of, octets::specs::Octets::part_of))]
+    #[tactic(auto, unfolding(crate::specs::Step::step_of))]
     pub fn step(self, event: Event, payload: &[u8], flash: &mut [u8], reply: &mut [u8]) -> Stepped
         ensures { left result flash.new reply.new
             ≡ step_of self event payload.now flash.old reply.old }

@@ -1,5 +1,5 @@
 -- The laws of posts and callers: what they count stays a number of eight bytes.
-use Rattle.std.specs.Prelude.{ℕ, ◌+◌, ◌%◌, ◌^◌, ◌<◌, Bool}
+use Rattle.std.specs.Prelude.{ℕ, ◌^◌, ◌<◌, Bool}
 use Rattle.std.proofs.Common.{arith}
 use Rattle.octets.proofs.Choice.{either_way}
 use Rattle.posts.specs.Post.{more_of}

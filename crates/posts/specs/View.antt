@@ -1,5 +1,5 @@
 -- What a person, or a file of the flash, needs to know of a post, and what an answer of the host says of the end.
-use Rattle.std.specs.Prelude.{ℕ, Bool, true, false, cond, nat_lt, Some, None}
+use Rattle.std.specs.Prelude.{ℕ, Bool, cond, nat_lt, Some, None}
 use Rattle.kinds.specs.Kinds.{base_of}
 use Rattle.module_model.specs.Phases.{longest_idle}
 use Rattle.module.specs.Session.{takes}

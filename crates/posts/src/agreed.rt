@@ -11,21 +11,16 @@ const RATE_PLACE: usize = 5;
 // An agreement is no longer than this.
 const AGREEMENT_MOST: usize = 16;
 
-// The rate that a reply agrees to; 0 for any other reply.
+// The rate that a reply agrees to; 0 for any other reply, since C's zrn_rate_agreed answers so and the contract promises agreed_in.
+#[tactic(auto, unfolding(crate::specs::Agreed::agreed_in))]
 pub fn agreed_rate(reply: &[u8]) -> u8
     ensures { result ≡ agreed_in reply.now }
 {
     let rate = octets::byte_at(reply, RATE_PLACE);
-    if rate < 1 {
-        return 0;
+    if (1..=5).contains(&rate) && is_agreement(rate, reply) {
+        return rate;
     }
-    if 5 < rate {
-        return 0;
-    }
-    if !is_agreement(rate, reply) {
-        return 0;
-    }
-    rate
+    0
 }
 
 // Whether a reply is the one that agrees to a rate.

@@ -33,42 +33,35 @@ impl Caller {
     pub fn session(self) -> Session
         ensures { result ≡ self.end.session }
     {
-        let end = self.end;
-        end.session
+        self.end.session
     }
 
     // Takes one byte.
     pub fn hear(self, byte: u8, image: &[u8], out: &mut [u8]) -> CallerStep
         ensures { caller_left result out.new ≡ caller_hears self byte image.now out.old }
     {
-        let end = self.end;
-        self.went(end.hear(byte, image, out))
+        self.went(self.end.hear(byte, image, out))
     }
 
     // Milliseconds pass.
     pub fn wait(self, ms: u32, image: &[u8], out: &mut [u8]) -> CallerStep
         ensures { caller_left result out.new ≡ caller_waits self ms image.now out.old }
     {
-        let end = self.end;
-        self.went(end.wait(ms, image, out))
+        self.went(self.end.wait(ms, image, out))
     }
 
     // What the step of the end leaves. The session counts the repeats of the message under way only, so each one is added up here.
     fn went(self, step: HostStep) -> CallerStep
         ensures { result ≡ called_step self step }
     {
-        let before = self.session();
-        let end = step.end;
-        let after = end.session;
-        let answer = step.answer;
-        let again = before.resent() < after.resent();
+        let again = self.session().resent() < step.end.session.resent();
         CallerStep {
             caller: Caller {
-                end: end,
+                end: step.end,
                 resent: more(self.resent, again),
                 dropped: more(self.dropped, step.dropped),
             },
-            answer: answer,
+            answer: step.answer,
         }
     }
 }

@@ -35,10 +35,8 @@ impl Post {
     pub fn waiting() -> Post
         ensures { result ≡ waiting_post }
     {
-        let opened = Session::opening(b"");
-        let session = opened.session;
         Post {
-            board: Board::new(session),
+            board: Board::new(Session::opening(b"").session),
             seen: 0,
             dropped: 0,
         }
@@ -48,10 +46,8 @@ impl Post {
     pub fn opened(self, flash: &[u8]) -> Post
         ensures { result ≡ opened_post self flash.now }
     {
-        let opened = Session::opening(flash);
-        let session = opened.session;
         Post {
-            board: Board::new(session),
+            board: Board::new(Session::opening(flash).session),
             seen: 0,
             dropped: self.dropped,
         }
@@ -60,9 +56,7 @@ impl Post {
     pub fn is_open(self) -> bool
         ensures { result ≡ is_open self }
     {
-        let board = self.board;
-        let session = board.session;
-        session.is_open()
+        self.board.session.is_open()
     }
 
     // Takes one byte. While a session is open texts are not looked at.
@@ -74,17 +68,14 @@ impl Post {
             let seen = host_end::follow(&commands::START_TEXT, self.seen, byte);
             return self.listens(seen, flash, reply);
         }
-        let board = self.board;
-        let step = board.hear(byte, flash, reply);
-        let after = step.board;
-        let answer = step.answer;
+        let step = self.board.hear(byte, flash, reply);
         PostStep {
             post: Post {
-                board: after,
+                board: step.board,
                 seen: 0,
                 dropped: more(self.dropped, step.dropped),
             },
-            answer: answer,
+            answer: step.answer,
         }
     }
 
@@ -96,17 +87,14 @@ impl Post {
         if !self.is_open() {
             return self.says(Answer::Nothing);
         }
-        let board = self.board;
-        let step = board.wait(ms, flash, reply);
-        let after = step.board;
-        let answer = step.answer;
+        let step = self.board.wait(ms, flash, reply);
         PostStep {
             post: Post {
-                board: after,
+                board: step.board,
                 seen: 0,
                 dropped: more(self.dropped, step.dropped),
             },
-            answer: answer,
+            answer: step.answer,
         }
     }
 
@@ -118,9 +106,7 @@ impl Post {
         if seen == commands::START_TEXT.len() {
             return self.begins(flash, reply);
         }
-        let mut next = self;
-        next.seen = seen;
-        next.says(Answer::Nothing)
+        Post { seen, ..self }.says(Answer::Nothing)
     }
 
     // The start text is whole: its answer, and a session. Without room for the answer nothing happens.
@@ -132,17 +118,14 @@ impl Post {
             return self.says(Answer::Nothing);
         }
         octets::copy(&commands::START_ANSWER, reply, 0);
-        let next = self.opened(flash);
-        next.says(Answer::Sent(commands::START_ANSWER.len()))
+        self.opened(flash)
+            .says(Answer::Sent(commands::START_ANSWER.len()))
     }
 
     fn says(self, answer: Answer) -> PostStep
         ensures { result ≡ record { post = self; answer = answer } }
     {
-        PostStep {
-            post: self,
-            answer: answer,
-        }
+        PostStep { post: self, answer }
     }
 }
 
@@ -150,8 +133,5 @@ impl Post {
 pub(crate) fn more(count: usize, happened: bool) -> usize
     ensures { result ≡ more_of count happened }
 {
-    if happened {
-        return std::num::wrapping_add_usize(count, 1);
-    }
-    count
+    count.wrapping_add(usize::from(happened))
 }

@@ -29,13 +29,11 @@ pub struct View {
 pub fn view_of(post: Post) -> View
     ensures { result ≡ view_of post }
 {
-    let board = post.board;
-    let session = board.session;
+    let session = post.board.session;
     if !session.is_open() {
         return bare(Stand::Closed);
     }
-    let phase = session.phase;
-    phase_view(phase)
+    phase_view(session.phase)
 }
 
 fn phase_view(phase: Phase) -> View
@@ -47,8 +45,8 @@ fn phase_view(phase: Phase) -> View
         Phase::Begun(transfer) => seen(Stand::Begun, transfer, 0),
         Phase::Loading {
             pieces,
-            number,
             written,
+            ..
         } => cut(Stand::Loading, pieces, written),
         Phase::Done { pieces, written } => cut(Stand::Done, pieces, written),
     }
@@ -69,18 +67,16 @@ fn bare(stand: Stand) -> View
 fn cut(stand: Stand, pieces: Pieces, written: usize) -> View
     ensures { result ≡ cut_of stand pieces written }
 {
-    let transfer = pieces.transfer;
-    seen(stand, transfer, written)
+    seen(stand, pieces.transfer, written)
 }
 
 fn seen(stand: Stand, transfer: Transfer, written: usize) -> View
     ensures { result ≡ seen_of stand transfer written }
 {
-    let kind = transfer.kind;
     View {
         stand,
-        kind: Some(kind),
-        base: kinds::base_of(kind) as usize,
+        kind: Some(transfer.kind),
+        base: kinds::base_of(transfer.kind) as usize,
         extent: transfer.extent,
         written: written,
     }
@@ -90,7 +86,5 @@ fn seen(stand: Stand, transfer: Transfer, written: usize) -> View
 pub fn is_idle(post: Post) -> bool
     ensures { result ≡ idle_of post }
 {
-    let board = post.board;
-    let session = board.session;
-    session.idle > 7000
+    post.board.session.idle > 7000
 }

@@ -1,4 +1,4 @@
-// The five rates by number.
+// The five rates by number, and which of them a load may ask for.
 #![tactic(auto)]
 
 ghost use Rattle.std.specs.Prelude.{◌≡◌};
@@ -10,18 +10,13 @@ use host_model::Rate;
 pub fn rate_number(rate: Rate) -> u8
     ensures { result ≡ number_of_rate rate }
 {
-    match rate {
-        Rate::R9600 => 1,
-        Rate::R19200 => 2,
-        Rate::R38400 => 3,
-        Rate::R57600 => 4,
-        Rate::R115200 => 5,
-    }
+    u8::from(rate)
 }
 
 // A rate that was asked for is not above the first.
+#[tactic(auto, unfolding(host_model::specs::Stages::rate_fits))]
 pub fn rate_fits(first: Rate, rate: Rate) -> bool
     ensures { result ≡ rate_fits first rate }
 {
-    rate_number(rate) <= rate_number(first)
+    rate <= first
 }

@@ -94,18 +94,8 @@ impl fmt::Display for Line {
     fn fmt<W: fmt::Write>(&self, f: &mut fmt::Formatter<W>) -> fmt::Result {
         match self.0 {
             None => f.write_str("; line as it was"),
-            Some(rate) => write!(f, "; line at {}", baud(rate)),
+            Some(rate) => write!(f, "; line at {rate}"),
         }
-    }
-}
-
-fn baud(rate: Rate) -> u32 {
-    match rate {
-        Rate::R9600 => 9600,
-        Rate::R19200 => 19200,
-        Rate::R38400 => 38400,
-        Rate::R57600 => 57600,
-        Rate::R115200 => 115200,
     }
 }
 

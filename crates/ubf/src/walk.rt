@@ -1,4 +1,5 @@
 // The walk over the blocks of a file: it calls itself on the part that remains, which falls by a block each time.
+// A loop would be no plainer: it has to read at two places, in its body and behind it.
 ghost use Rattle.std.specs.Prelude.{◌≡◌, ◌+◌, ◌^◌, ◌≤◌, ◌<◌, length};
 ghost use Rattle.ubf_model.specs.Walk.{block_at, nth_from};
 
@@ -12,6 +13,7 @@ pub fn block_at(file: &[u8], n: usize) -> Nth
     nth_from(file, 0, n, 0)
 }
 
+#[tactic(auto, using(ubf_model::proofs::WalkLaws::nth_refused, ubf_model::proofs::WalkLaws::nth_here))]
 fn nth_from(rest: &[u8], place: usize, n: usize, counted: usize) -> Nth
     requires { (place + length rest.now < 2 ^ 63) × (counted ≤ place) }
     ensures { result ≡ nth_from n counted place rest.now }

@@ -100,10 +100,11 @@ pub fn date(s: &[u8]) -> &[u8]
     octets::part(s, DATE_PLACE, DATE_SIZE)
 }
 
+#[tactic(auto, using(octets::proofs::Words::same_pointwise))]
 fn marked(s: &[u8]) -> bool
     ensures { result ≡ same_bytes (mark_in s.now) mark }
 {
-    octets::same(octets::part(s, MARK_PLACE, 2), b"AT")
+    octets::part(s, MARK_PLACE, 2) == b"AT".as_slice()
 }
 
 // Whether the texts and the gap up to the image are filled with zeros.

@@ -34,9 +34,7 @@ pub fn write(
     out: &mut [u8],
 ) -> Result<usize, Refusal>
     ensures { record { answer = result; output = out.new }
-        ≡ pack_of
-        (gathered numbers model.now version.now name.now date.now image.now)
-        out.old }
+        ≡ pack_of (gathered numbers model.now version.now name.now date.now image.now) out.old }
 {
     if !type_pairs(numbers.number, numbers.address) {
         return Err(Refusal::WrongType);

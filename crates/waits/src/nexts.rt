@@ -11,16 +11,17 @@ use refusals::Refusal;
 pub fn event_next(wait: Wait, image: usize, event: Event, bytes: &[u8]) -> Next
     ensures { result ≡ event_next wait image event bytes.now }
 {
-    let plan = wait.plan;
-    let stage = wait.stage;
     match event {
         Event::Frame { command, count } => {
             let part = octets::part(bytes, 0, count);
-            move_next(wait, stages::frame_move(plan, image, stage, command, part))
+            move_next(
+                wait,
+                stages::frame_move(wait.plan, image, wait.stage, command, part),
+            )
         }
         Event::Line { count } => {
             let part = octets::part(bytes, 0, count);
-            move_next(wait, stages::line_move(plan, stage, part))
+            move_next(wait, stages::line_move(wait.plan, wait.stage, part))
         }
         Event::Elapsed(ms) => time_next(wait, ms),
     }
@@ -30,11 +31,10 @@ pub fn event_next(wait: Wait, image: usize, event: Event, bytes: &[u8]) -> Next
 fn move_next(wait: Wait, go: Move) -> Next
     ensures { result ≡ move_next wait go }
 {
-    let plan = wait.plan;
     match go {
         Move::Stay => Next::Stays,
-        Move::Enter(next) => Next::Sends(waiting(plan, next, 0, 0)),
-        Move::Await(next) => Next::Waits(waiting(plan, next, 0, wait.repeats)),
+        Move::Enter(next) => Next::Sends(waiting(wait.plan, next, 0, 0)),
+        Move::Await(next) => Next::Waits(waiting(wait.plan, next, 0, wait.repeats)),
         Move::Resend => resend_next(wait),
         Move::Refuse { refusal, passed } => Next::Fails { refusal, passed },
         Move::TooMany => Next::Ends(Answer::Refused(Refusal::WrongPieces)),
@@ -46,28 +46,28 @@ fn move_next(wait: Wait, go: Move) -> Next
 fn time_next(wait: Wait, ms: u32) -> Next
     ensures { result ≡ time_next wait ms }
 {
-    let plan = wait.plan;
-    let stage = wait.stage;
-    let limit = limit(stage);
-    if limit <= wait.waited {
+    let limit = limit(wait.stage);
+    if limit <= wait.waited || limit - wait.waited <= ms {
         return resend_next(wait);
     }
-    if limit - wait.waited <= ms {
-        return resend_next(wait);
-    }
-    Next::Waits(waiting(plan, stage, wait.waited + ms, wait.repeats))
+    Next::Waits(Wait {
+        waited: wait.waited + ms,
+        ..wait
+    })
 }
 
 // The message of the stage again, at most 3 times.
 fn resend_next(wait: Wait) -> Next
     ensures { result ≡ resend_next wait }
 {
-    let plan = wait.plan;
-    let stage = wait.stage;
     if MOST_REPEATS <= wait.repeats {
         return after_repeats(wait);
     }
-    Next::Sends(waiting(plan, stage, 0, wait.repeats + 1))
+    Next::Sends(Wait {
+        waited: 0,
+        repeats: wait.repeats + 1,
+        ..wait
+    })
 }
 
 // What follows the last repeat.
@@ -81,11 +81,8 @@ fn after_repeats(wait: Wait) -> Next
 pub fn plan_next(plan: Plan, image: usize) -> Next
     ensures { result ≡ plan_next plan image }
 {
-    let start = plan.start;
-    let first = plan.first;
-    let kind = plan.kind;
-    if !loadable(kind, image) {
+    if !loadable(plan.kind, image) {
         return Next::Ends(Answer::Refused(Refusal::WrongImageLength));
     }
-    Next::Sends(waiting(plan, first_stage(start, first), 0, 0))
+    Next::Sends(waiting(plan, first_stage(plan.start, plan.first), 0, 0))
 }

@@ -11,15 +11,11 @@ pub fn stage_progress(stage: Stage, image: usize) -> Progress
     ensures { result ≡ stage_progress stage image }
 {
     match stage {
-        Stage::Text => counted(0, 0),
-        Stage::Asking(_) => counted(0, 0),
-        Stage::Declaring(_) => counted(0, 0),
-        Stage::Sending { rate, size, number } => counted(
-            pieces::before(number),
-            pieces::count(image, size),
-        ),
-        Stage::Noticing { rate, size } => all(image, size),
-        Stage::Restarting { rate, size } => all(image, size),
+        Stage::Text | Stage::Asking(_) | Stage::Declaring(_) => counted(0, 0),
+        Stage::Sending { size, number, .. } => {
+            counted(pieces::before(number), pieces::count(image, size))
+        }
+        Stage::Noticing { size, .. } | Stage::Restarting { size, .. } => all(image, size),
     }
 }
 
@@ -33,10 +29,7 @@ fn all(image: usize, size: usize) -> Progress
 fn counted(accepted: usize, total: usize) -> Progress
     ensures { result ≡ progress_of accepted total }
 {
-    Progress {
-        accepted: accepted,
-        total: total,
-    }
+    Progress { accepted, total }
 }
 
 // The rate that the line should have for a message that was resent so often.
@@ -46,10 +39,10 @@ pub fn message_rate(stage: Stage, repeats: u32) -> Option<Rate>
     match stage {
         Stage::Text => None,
         Stage::Asking(rate) => asking_rate(rate, repeats),
-        Stage::Declaring(rate) => Some(rate),
-        Stage::Sending { rate, size, number } => Some(rate),
-        Stage::Noticing { rate, size } => Some(rate),
-        Stage::Restarting { rate, size } => Some(rate),
+        Stage::Declaring(rate)
+        | Stage::Sending { rate, .. }
+        | Stage::Noticing { rate, .. }
+        | Stage::Restarting { rate, .. } => Some(rate),
     }
 }
 
@@ -57,8 +50,5 @@ pub fn message_rate(stage: Stage, repeats: u32) -> Option<Rate>
 fn asking_rate(rate: Rate, repeats: u32) -> Option<Rate>
     ensures { result ≡ message_rate (Asking rate) repeats }
 {
-    if repeats % 2 == 1 {
-        return Some(rate);
-    }
-    None
+    (repeats % 2 == 1).then_some(rate)
 }

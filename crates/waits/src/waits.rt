@@ -19,28 +19,20 @@ pub fn phase_arises(image: usize, phase: Phase) -> bool
 {
     match phase {
         Phase::Ended => true,
-        Phase::EndedAt { kind, rate } => loadable(kind, image),
+        Phase::EndedAt { kind, .. } => loadable(kind, image),
         Phase::Waiting(wait) => wait_fits(image, wait),
     }
 }
 
 // Whether a waiting one could.
+#[tactic(auto, unfolding(host_model::specs::Waits::wait_fits))]
 fn wait_fits(image: usize, wait: Wait) -> bool
     ensures { result ≡ wait_fits image wait }
 {
-    let plan = wait.plan;
-    let stage = wait.stage;
-    let kind = plan.kind;
-    if !loadable(kind, image) {
-        return false;
-    }
-    if limit(stage) <= wait.waited {
-        return false;
-    }
-    if MOST_REPEATS < wait.repeats {
-        return false;
-    }
-    stages::stage_fits(plan, image, stage)
+    loadable(wait.plan.kind, image)
+        && wait.waited < limit(wait.stage)
+        && wait.repeats <= MOST_REPEATS
+        && stages::stage_fits(wait.plan, image, wait.stage)
 }
 
 // What can be loaded.
@@ -55,12 +47,12 @@ pub(crate) fn limit(stage: Stage) -> u32
     ensures { result ≡ limit_of stage }
 {
     match stage {
-        Stage::Text => ANSWER_LIMIT,
-        Stage::Asking(_) => ANSWER_LIMIT,
-        Stage::Declaring(_) => ANSWER_LIMIT,
-        Stage::Sending { .. } => ANSWER_LIMIT,
         Stage::Noticing { .. } => NOTICE_LIMIT,
-        Stage::Restarting { .. } => ANSWER_LIMIT,
+        Stage::Text
+        | Stage::Asking(_)
+        | Stage::Declaring(_)
+        | Stage::Sending { .. }
+        | Stage::Restarting { .. } => ANSWER_LIMIT,
     }
 }
 
@@ -78,9 +70,9 @@ pub(crate) fn waiting(plan: Plan, stage: Stage, waited: u32, repeats: u32) -> Wa
     ensures { result ≡ wait plan stage waited repeats }
 {
     Wait {
-        plan: plan,
-        stage: stage,
-        waited: waited,
-        repeats: repeats,
+        plan,
+        stage,
+        waited,
+        repeats,
     }
 }

@@ -1,14 +1,22 @@
 -- `keep`: the words, then the store behind them.
 use mathlib.Core.Path.{◌≡◌, refl, sym, ap, ◌∙◌}
 use borrow.Author.Tests.{lt-ltb}
+use mir.Val.{bool_byte}
+use Prim.Native.Nat.{ℕ}
+use mathlib.Core.Bool.{Bool, true, false}
 use lib.ListN.{length}
 use Rattle.wire.specs.Frame.{longest_content}
 use Rattle.octets.specs.Octets.{laid}
 use Rattle.octets.proofs.Choice.{cond_yes}
-use Rattle.kept_reader.specs.Kept.{store_place, bytes_of, reader_kept}
+use Rattle.kept_reader.specs.Kept.{store_place, flag, bytes_of, reader_kept}
 use Rattle.kept_reader.proofs.KeptLaws.{words_and_store, kept_over}
 use Rattle.std.proofs.Common.{arith}
 use Rattle.kept_reader.proofs.keep.Goals as goal
+
+-- A bool as a word.
+flagged : (b : Bool) (n : ℕ) → n ≡ bool_byte b → n ≡ flag b
+flagged true n e = e
+flagged false n e = e
 
 pub returns-then-state-lt-READER_BYTES : goal.returns-then-state-lt-READER_BYTES
 unfolding reader_kept
@@ -23,5 +31,5 @@ returns c =
     c.copy.ensures
     ∙ ap (λ d. laid d store_place a.reader.store) c.store.ensures
     ∙ words_and_store _ a.reader.store a.state.now refl (rw size room)
-    ∙ rw (c.low.ensures, c.flag_of.ensures, c.flag_of-2.ensures)
+    ∙ rw (c.low.ensures, flagged _ _ c.from.ensures, flagged _ _ c.from-2.ensures)
     (sym (kept_over a.reader a.state.now room))

@@ -18,7 +18,6 @@ unfolding reader_in
 returns c =
     rw (
       c.store_in.ensures,
-      c.wide.ensures.0,
       c.four_at.ensures,
       c.four_at-2.ensures,
       c.four_at-3.ensures,

@@ -7,7 +7,6 @@ unfolding caller_in
 returns c =
     rw (
       c.reader_in.ensures,
-      c.wide.ensures.0,
       c.four_at.ensures,
       c.session_in.ensures,
       c.behind.ensures,

@@ -5,5 +5,5 @@ use Rattle.kept_host.proofs.calls.step.Goals as goal
 pub returns : goal.returns
 returns c =
     let a = c.args in
-    step_kept a.state.now a.event a.bytes.now a.image.now a.out.now _ _ _ _ _ c.session_in-session.ensures
+    step_kept a.state.now a.event a.bytes.now a.image.now a.out.now _ _ _ _ _ c.session_in.ensures
     c.step-stepped.ensures c.keep.ensures c.told_of-says.ensures

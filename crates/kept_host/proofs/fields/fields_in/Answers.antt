@@ -7,7 +7,7 @@ unfolding fields_in
 returns c =
     rw (
       c.eight_at.ensures,
-      c.phase_in-phase.ensures,
-      c.kind_of.ensures,
+      c.phase_in.ensures,
+      c.kind_of-kind.ensures,
       c.two_at.ensures,
     )

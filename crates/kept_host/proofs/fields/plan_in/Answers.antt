@@ -7,10 +7,10 @@ unfolding plan_in
 returns c =
     rw (
       c.eight_at.ensures,
-      c.same_in-same.ensures,
+      c.same_in.ensures,
       c.byte_at-3.ensures,
-      c.start_in-start.ensures,
+      c.start_in.ensures,
       c.byte_at-2.ensures,
-      c.rate_in-first.ensures,
+      c.rate_in.ensures,
       c.byte_at.ensures,
     )

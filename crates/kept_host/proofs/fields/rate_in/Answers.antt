@@ -1,31 +1,30 @@
--- `rate_in`: each arm is one case of the definition.
-use borrow.Author.Rules.{rules}
+-- `rate_in`: the rate with that number, or the lowest.
+use Prim.Native.Nat.{ℕ}
+use mathlib.Core.Path.{◌≡◌, refl, sym, ap, ◌∙◌}
+use Rattle.std.specs.Result.{result_unwrap_or}
+use Rattle.std.specs.Prelude.{Result, Ok, Err, Bool, true, false, eqb}
 use borrow.Author.Tests.{ne_eqb}
+use Rattle.std.proofs.lemmas.Bool.{true≢false}
+use Rattle.host_model.specs.Rates.{Numbered, is_rate}
+use Rattle.host_model.specs.Stages.{number_of_rate}
+use Rattle.host_model.specs.declared.plan.Rate.{Rate}
+use Rattle.host_model.specs.declared.plan.Rate.TheVariants.{R9600, R19200, R38400, R57600, R115200}
+use Rattle.host_model.specs.declared.rate.UnknownRate.{UnknownRate}
 use Rattle.kept_host.specs.Kept.{rate_in}
 use Rattle.kept_host.proofs.fields.rate_in.Goals as goal
 
-pub returns-in-2 : goal.returns-in-2
-unfolding rate_in
-returns-in-2 c = rw c.in-2.is
+-- A number that no rate has is none of these.
+other : (n k : ℕ) → is_rate n ≡ false → is_rate k ≡ true → eqb n k ≡ false
+other n k none one = ne_eqb n k (λ same. true≢false (sym one ∙ ap is_rate (sym same) ∙ none))
 
-pub returns-in-3 : goal.returns-in-3
+read : (n : ℕ) (r : Result Rate UnknownRate) → Numbered n r → result_unwrap_or r R9600 ≡ rate_in n
 unfolding rate_in
-returns-in-3 c = rw c.in-3.is
+read n (Ok R9600) e = rw (← e)
+read n (Ok R19200) e = rw (← e)
+read n (Ok R38400) e = rw (← e)
+read n (Ok R57600) e = rw (← e)
+read n (Ok R115200) e = rw (← e)
+read n (Err u) e = rw (other n 2 e.1 refl, other n 3 e.1 refl, other n 4 e.1 refl, other n 5 e.1 refl)
 
-pub returns-in-4 : goal.returns-in-4
-unfolding rate_in
-returns-in-4 c = rw c.in-4.is
-
-pub returns-in-5 : goal.returns-in-5
-unfolding rate_in
-returns-in-5 c = rw c.in-5.is
-
-pub returns-in_default : goal.returns-in_default
-unfolding rate_in
-returns-in_default c =
-    rw (
-      ne_eqb c.args.n 2 (search rules),
-      ne_eqb c.args.n 3 (search rules),
-      ne_eqb c.args.n 4 (search rules),
-      ne_eqb c.args.n 5 (search rules),
-    )
+pub returns : goal.returns
+returns c = c.unwrap_or.ensures ∙ read _ _ c.try_from.ensures

@@ -7,4 +7,4 @@ use Rattle.kept_host.proofs.kept.write.Goals as goal
 
 pub returns : goal.returns
 returns c =
-    c.store.ensures ∙ ap (λ (w : List ℕ). recorded w c.args.state.now) c.words_of-words.ensures
+    c.store.ensures ∙ ap (λ (w : List ℕ). recorded w c.args.state.now) c.words_of.ensures

@@ -6,7 +6,9 @@ returns c =
     rw (
       c.same_number.ensures,
       c.start_number.ensures,
+      c.from-2.ensures,
       c.rate_number.ensures,
+      c.from.ensures,
       c.number_of.ensures,
       c.high-2.ensures,
       c.low-2.ensures,

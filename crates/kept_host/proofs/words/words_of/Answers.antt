@@ -12,7 +12,7 @@ pub returns-in-EndedAt : goal.returns-in-EndedAt
 unfolding words_of
 returns-in-EndedAt c =
     c.ended_words-in-EndedAt.ensures
-    ∙ rw (c.rate_number.ensures, c.number_of.ensures)
+    ∙ rw (c.from-in-EndedAt.ensures, c.rate_number.ensures, c.from.ensures, c.number_of.ensures)
     (sym (ap (phase_words c.args.session.image) c.in-EndedAt.is))
 
 pub returns-in-Waiting : goal.returns-in-Waiting

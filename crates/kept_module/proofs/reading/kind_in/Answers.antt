@@ -1,13 +1,16 @@
 -- `kind_in`: the kind of the type, if it is one.
-use mathlib.Core.Path.{sym, ap, ◌∙◌}
+use mathlib.Core.Path.{◌≡◌, refl, ap, ◌∙◌}
+use Rattle.std.specs.Prelude.{Option, None, Some}
+use Rattle.std.specs.Option.{unwrap_or}
 use Rattle.kinds.specs.Kinds.{kind_of}
+use Rattle.kinds.specs.declared.Kind.{Kind}
+use Rattle.kinds.specs.declared.Kind.TheVariants.{Navigation}
 use Rattle.kept_module.specs.Kept.{kind_by}
 use Rattle.kept_module.proofs.reading.kind_in.Goals as goal
 
-pub returns-in-Some : goal.returns-in-Some
-returns-in-Some c =
-    ap kind_by (sym c.in-Some.is ∙ c.kind_of-known.ensures ∙ ap kind_of c.two_at.ensures)
+known : (kind : Option Kind) → unwrap_or kind Navigation ≡ kind_by kind
+known None = refl
+known (Some kind) = refl
 
-pub returns-in-None : goal.returns-in-None
-returns-in-None c =
-    ap kind_by (sym c.in-None.is ∙ c.kind_of-known.ensures ∙ ap kind_of c.two_at.ensures)
+pub returns : goal.returns
+returns c = c.unwrap_or.ensures ∙ known c.kind_of.result ∙ ap kind_by (c.kind_of.ensures ∙ ap kind_of c.two_at.ensures)

@@ -7,8 +7,8 @@ unfolding post_kept
 returns c =
     rw (
       c.copy-2.ensures,
-      c.record_of-own.ensures,
+      c.record_of-session.ensures,
       c.copy.ensures,
-      c.counts_of-counts.ensures,
+      c.counts_of.ensures,
       c.keep.ensures,
     )

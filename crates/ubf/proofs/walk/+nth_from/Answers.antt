@@ -1,15 +1,9 @@
 -- `ubf::nth_from`: each call looks at one block and goes on with what remains, which is shorter.
 use Rattle.std.proofs.Common.{◌≡◌, suc, ◌-◌, sym, ap, ◌∙◌, add-one, arith, drop}
 use Rattle.ubf_model.specs.Block.{size_of}
-use Rattle.ubf_model.proofs.BlockLaws.{block_within, block_some}
-use Rattle.ubf_model.proofs.WalkLaws.{nth_refused, nth_here, nth_last, nth_next}
+use Rattle.ubf_model.proofs.BlockLaws.{block_within}
+use Rattle.ubf_model.proofs.WalkLaws.{nth_last, nth_next}
 use Rattle.ubf.proofs.walk.+nth_from.Goals as goal
-
-pub returns-then-n-eq0 : goal.returns-then-n-eq0
-returns-then-n-eq0 t c =
-    let a = c.args in
-    let whole = sym c.read.ensures ∙ c.in-Ok.is in
-    rw c.if-n-eq0.true (sym (nth_here a.counted a.place a.rest.now _ whole))
 
 pub returns-then-rest-taken : goal.returns-then-rest-taken
 returns-then-rest-taken t c =
@@ -18,11 +12,6 @@ returns-then-rest-taken t c =
     let within = block_within a.rest.now _ whole in
     let more : a.n ≡ suc (a.n - 1) = omega (arith, c.if-n-eq0.false) in
     rw (more, add-one) (sym (nth_last (a.n - 1) a.counted a.place a.rest.now _ whole (omega (arith, within, c.size-taken.ensures))))
-
-pub returns-in-Err : goal.returns-in-Err
-returns-in-Err t c =
-    let a = c.args in
-    sym (nth_refused a.n a.counted a.place _ a.rest.now (sym c.read.ensures ∙ c.in-Err.is))
 
 pub returns-else-rest-taken : goal.returns-else-rest-taken
 returns-else-rest-taken t c =

@@ -12,7 +12,7 @@ use Rattle.host.proofs.session.Session.fails.Goals as goal
 pub returns-in-Err : goal.returns-in-Err
 returns-in-Err c =
     let a = c.args in
-    let sent = c.send_restart-sent in
+    let sent = c.send_restart in
     ap (λ x. left x sent.new.out) c.answers-in-Err.ensures
     ∙ sends_refused a.self (goes_out restart_frame) a.out.now sent.result sent.new.out sent.ensures _ _
     c.in-Err.is
@@ -20,8 +20,8 @@ returns-in-Err c =
 pub returns-in-Ok : goal.returns-in-Ok
 returns-in-Ok c =
     let a = c.args in
-    let sent = c.send_restart-sent in
+    let sent = c.send_restart in
     ap (λ x. left x sent.new.out) c.answers.ensures
-    ∙ ap (λ s. left (stepped s (Failed a.refusal a.passed c.in-Ok.n)) sent.new.out) c.failed.ensures
+    ∙ ap (λ s. left (stepped s (Failed a.refusal a.passed c.in-Ok.count)) sent.new.out) c.failed.ensures
     ∙ sends_counted a.self (goes_out restart_frame) a.out.now sent.result sent.new.out sent.ensures
     (λ n. stepped (failed_of a.self (length a.image.now)) (Failed a.refusal a.passed n)) _ c.in-Ok.is

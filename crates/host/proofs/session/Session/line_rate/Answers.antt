@@ -4,11 +4,11 @@ use Rattle.host_model.specs.Views.{phase_rate}
 use Rattle.host.proofs.session.Session.line_rate.Goals as goal
 
 pub returns-in-Ended : goal.returns-in-Ended
-returns-in-Ended c = sym (ap phase_rate (sym c.taken-phase.ensures ∙ c.in-Ended.is))
+returns-in-Ended c = sym (ap phase_rate (sym c.taken.ensures ∙ c.in-Ended.is))
 
 pub returns-in-EndedAt : goal.returns-in-EndedAt
-returns-in-EndedAt c = sym (ap phase_rate (sym c.taken-phase.ensures ∙ c.in-EndedAt.is))
+returns-in-EndedAt c = sym (ap phase_rate (sym c.taken.ensures ∙ c.in-EndedAt.is))
 
 pub returns-in-Waiting : goal.returns-in-Waiting
 returns-in-Waiting c =
-    c.message_rate.ensures ∙ sym (ap phase_rate (sym c.taken-phase.ensures ∙ c.in-Waiting.is))
+    c.message_rate.ensures ∙ sym (ap phase_rate (sym c.taken.ensures ∙ c.in-Waiting.is))

@@ -15,7 +15,7 @@ unfolding opening_of
 returns-in-Some c =
     let a = c.args in
     let w : Wishes = record { first = a.first; wish = a.wish; start = a.start; same = a.same } in
-    let known = sym c.kind_of-known.ensures ∙ c.in-Some.is in
+    let known = sym c.kind_of.ensures ∙ c.in-Some.is in
     c.performs.ensures
     ∙ ap₂ (λ s n. performs s n a.image.now a.out.now) c.over.ensures c.plan_next-next.ensures
     ∙ sym (ap (λ k. known_opening k w a.image.now a.out.now) known)
@@ -25,7 +25,7 @@ unfolding opening_of
 returns-in-None c =
     let a = c.args in
     let w : Wishes = record { first = a.first; wish = a.wish; start = a.start; same = a.same } in
-    let unknown = sym c.kind_of-known.ensures ∙ c.in-None.is in
+    let unknown = sym c.kind_of.ensures ∙ c.in-None.is in
     ap (λ x. left x a.out.now) c.answers.ensures
     ∙ ap (λ s. left (stepped s (Refused wrong_type)) a.out.now) c.over-in-None.ensures
     ∙ sym (ap (λ k. known_opening k w a.image.now a.out.now) unknown)

@@ -13,7 +13,7 @@ pub returns-in-Err : goal.returns-in-Err
 returns-in-Err c =
     let a = c.args in
     let w = a.wait in
-    let sent = c.send-sent in
+    let sent = c.send in
     let after = sent.new.out in
     ap (λ x. left x after) c.answers-in-Err.ensures
     ∙ sends_refused a.self (message_of w.plan a.image.now w.stage) a.out.now sent.result after sent.ensures _ _
@@ -23,7 +23,7 @@ pub returns-in-Ok : goal.returns-in-Ok
 returns-in-Ok c =
     let a = c.args in
     let w = a.wait in
-    let sent = c.send-sent in
+    let sent = c.send in
     let after = sent.new.out in
     ap (λ x. left x after) c.answers.ensures
     ∙ ap (λ s. left (stepped s (Sent c.in-Ok.n)) after) c.waiting.ensures

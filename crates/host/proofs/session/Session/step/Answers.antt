@@ -1,4 +1,5 @@
 -- `Session::step`: 3, else by the phase that it is taken to be in.
+use mathlib.Core.Logic.{inl, inr}
 use mathlib.Core.Path.{sym, ap, ◌∙◌}
 use lib.ListN.{length}
 use Rattle.host_model.proofs.NextsLaws.{event_small, small_next_same}
@@ -15,25 +16,19 @@ returns-then-image-self c =
 pub returns-in-Ended : goal.returns-in-Ended
 returns-in-Ended c =
     let a = c.args in
-    ap (λ x. left x a.out.now) c.answers-in-Ended.ensures
-    ∙ sym
-    (step_taken a.self a.event a.bytes.now a.image.now a.out.now c.if-image-self.false _
-    (sym c.taken-phase.ensures ∙ c.in-Ended.is))
-
-pub returns-in-EndedAt : goal.returns-in-EndedAt
-returns-in-EndedAt c =
-    let a = c.args in
-    ap (λ x. left x a.out.now) c.answers-in-EndedAt.ensures
-    ∙ sym
-    (step_taken a.self a.event a.bytes.now a.image.now a.out.now c.if-image-self.false _
-    (sym c.taken-phase.ensures ∙ c.in-EndedAt.is))
+    let nothing = ap (λ x. left x a.out.now) c.answers-in-Ended.ensures in
+    let taken = step_taken a.self a.event a.bytes.now a.image.now a.out.now c.if-image-self.false in
+    elim c.in-Ended.is [
+      | inl ended ↦ nothing ∙ sym (taken _ (sym c.taken.ensures ∙ ended))
+      | inr ended ↦ nothing ∙ sym (taken _ (sym c.taken.ensures ∙ ended.2))
+    ]
 
 pub performs-requires : goal.performs-requires
 performs-requires c =
     let a = c.args in
     small_next_same _ _ (sym c.event_next-next.ensures)
     (event_small c.in-Waiting.wait (length a.image.now) a.event a.bytes.now
-    (rw c.if-image-self.false (taken_waits a.self c.in-Waiting.wait (sym c.taken-phase.ensures ∙ c.in-Waiting.is))))
+    (rw c.if-image-self.false (taken_waits a.self c.in-Waiting.wait (sym c.taken.ensures ∙ c.in-Waiting.is))))
 
 pub returns-in-Waiting : goal.returns-in-Waiting
 returns-in-Waiting c =
@@ -42,4 +37,4 @@ returns-in-Waiting c =
     ∙ ap (λ n. performs a.self n a.image.now a.out.now) c.event_next-next.ensures
     ∙ sym
     (step_taken a.self a.event a.bytes.now a.image.now a.out.now c.if-image-self.false _
-    (sym c.taken-phase.ensures ∙ c.in-Waiting.is))
+    (sym c.taken.ensures ∙ c.in-Waiting.is))

@@ -25,7 +25,7 @@ returns-in-Nothing c =
     let a = c.args in
     c.line.ensures
     ∙ sym
-    (heard-as a.self a.byte a.image.now a.out.now _ _ _ c.follow-seen.ensures c.step-read.ensures
+    (heard-as a.self a.byte a.image.now a.out.now _ _ _ c.follow.ensures c.step-read.ensures
     c.in-Nothing.is)
 
 pub returns-in-Frame : goal.returns-in-Frame
@@ -33,7 +33,7 @@ returns-in-Frame c =
     let a = c.args in
     c.frame.ensures
     ∙ sym
-    (heard-as a.self a.byte a.image.now a.out.now _ _ _ c.follow-seen.ensures c.step-read.ensures
+    (heard-as a.self a.byte a.image.now a.out.now _ _ _ c.follow.ensures c.step-read.ensures
     c.in-Frame.is)
 
 pub returns-in-Dropped : goal.returns-in-Dropped
@@ -41,5 +41,5 @@ returns-in-Dropped c =
     let a = c.args in
     c.line-in-Dropped.ensures
     ∙ sym
-    (heard-as a.self a.byte a.image.now a.out.now _ _ _ c.follow-seen.ensures c.step-read.ensures
+    (heard-as a.self a.byte a.image.now a.out.now _ _ _ c.follow.ensures c.step-read.ensures
     c.in-Dropped.is)

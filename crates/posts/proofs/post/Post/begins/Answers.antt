@@ -12,4 +12,4 @@ returns-then-reply-lt14 c =
 
 pub returns : goal.returns
 unfolding begins
-returns c = simp (c.says-2.ensures, c.opened-next.ensures, c.copy.ensures, le-ltb _ _ c.if-reply-lt14.false)
+returns c = simp (c.says-2.ensures, c.opened.ensures, c.copy.ensures, le-ltb _ _ c.if-reply-lt14.false)

@@ -7,4 +7,4 @@ use Rattle.posts.proofs.post.Post.opened.Goals as goal
 pub returns : goal.returns
 unfolding opened_post
 returns c =
-    ap (λ b. post_with b 0 c.args.self.dropped) (c.new.ensures ∙ ap (λ s. board_of s.session) c.opening-opened.ensures)
+    ap (λ b. post_with b 0 c.args.self.dropped) (c.new.ensures ∙ ap (λ s. board_of s.session) c.opening.ensures)

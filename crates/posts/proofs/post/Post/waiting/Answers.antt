@@ -7,4 +7,4 @@ use Rattle.posts.proofs.post.Post.waiting.Goals as goal
 pub returns : goal.returns
 unfolding waiting_post
 returns c =
-    ap (λ b. post_with b 0 0) (c.new.ensures ∙ ap (λ s. board_of s.session) c.opening-opened.ensures)
+    ap (λ b. post_with b 0 0) (c.new.ensures ∙ ap (λ s. board_of s.session) c.opening.ensures)
