@@ -12,7 +12,8 @@ pub struct Board {
     pub session: Session,
 }
 
-// The board after a byte or a time, the session's answer, and whether the reader has dropped a frame.
+// The board after a byte or a time, the session's answer, and whether the reader has dropped a frame: counted beside the answer, no case of
+// it. A struct of its own and no generic one: statements name the parts, and `.board` says more than `.0`.
 #[derive(Clone, Copy)]
 pub struct BoardStep {
     pub board: Board,

@@ -37,10 +37,11 @@ pub enum Came {
 pub const SILENCE: u32 = 100;
 
 // Opens a terminal by its path; a dash is standard input and output.
+#[tactic(auto, using(octets::proofs::Words::same_pointwise))]
 pub fn open<R: Files>(rt: &R, path: &[u8]) -> Result<Cable<R::File>, FileError>
     ensures { Opens result path.now }
 {
-    if octets::same(path, b"-") {
+    if path == b"-".as_slice() {
         return Ok(Cable::Standard);
     }
     Ok(Cable::Terminal(console::open_update(rt, path)?))

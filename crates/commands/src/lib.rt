@@ -45,7 +45,7 @@ pub fn write_rate(rate: u8, out: &mut [u8]) -> Result<usize, Refusal>
     wire::write(RATE, &[rate], out)
 }
 
-// Writes 0x02: type, length and token of an image.
+// Writes 0x02: type, length and token of an image. Payloads are arrays, as the library takes no memory.
 pub fn write_parameters(kind: Kind, extent: usize, out: &mut [u8]) -> Result<usize, Refusal>
     ensures { record { answer = result; output = out.new } ≡ write_of (parameters_frame kind extent) out.old }
 {

@@ -52,7 +52,7 @@ fn with_block(block: Block, place: usize) -> Answered
         extent: block.extent,
         start: block.start,
         check: block.check,
-        place: place,
+        place,
         count: 0,
     }
 }
@@ -62,13 +62,13 @@ fn without_block(answer: u8, place: usize, count: usize) -> Answered
     ensures { result ≡ without_block answer place count }
 {
     Answered {
-        answer: answer,
+        answer,
         kind: 0,
         extent: 0,
         start: 0,
         check: 0,
-        place: place,
-        count: count,
+        place,
+        count,
     }
 }
 
@@ -223,7 +223,7 @@ pub extern "C" fn zrn_ubf_write(
     let numbers = Numbers {
         number: kind,
         address: address,
-        start: start,
+        start,
     };
     let written = ubf::write(numbers, model, version, name, date, image, out);
     *count = count_of(written);

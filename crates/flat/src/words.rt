@@ -47,7 +47,7 @@ pub fn high(x: usize) -> u32
     (x >> 32) as u32
 }
 
-// A word as a size.
+// A word as a size, with its bound, which the sums of the calls for C need: usize takes no u32 by From.
 pub fn wide(x: u32) -> usize
     ensures { (result ≡ x) × (result < 4294967296) }
 {

@@ -20,6 +20,8 @@ pub struct Session {
     pub phase: Phase,
 }
 
+// The session handed back, and its answer. A struct of its own and no generic pair: README and the statements name the parts, and
+// `.session` says more than `.0`.
 #[derive(Clone, Copy)]
 pub struct Stepped {
     pub session: Session,

@@ -13,7 +13,8 @@ pub struct HostEnd {
     pub session: Session,
 }
 
-// The host's end after a byte or a time, the session's answer, and whether the reader has dropped a frame.
+// The host's end after a byte or a time, the session's answer, and whether the reader has dropped a frame: counted beside the answer, which
+// may come with the same byte. A struct of its own and no generic one: statements name the parts, and `.end` says more than `.0`.
 #[derive(Clone, Copy)]
 pub struct HostStep {
     pub end: HostEnd,

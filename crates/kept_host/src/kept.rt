@@ -23,7 +23,8 @@ pub fn record_of(session: Session) -> [u8; record::RECORD_BYTES]
     flat::spelled(&words_of(session))
 }
 
-// Whether the bytes begin with the record of a session that could arise; any others are taken as an ended one.
+// Whether the bytes begin with the record of a session that could arise; any others are taken as an ended one. octets::same and not ==, as
+// `stands` speaks of same_bytes.
 pub fn stands(state: &[u8]) -> bool
     ensures { result ≡ stands state.now }
 {
@@ -55,7 +56,7 @@ pub(crate) fn over(image: usize) -> Session
     ensures { result ≡ ended_of image }
 {
     Session {
-        image: image,
+        image,
         phase: Phase::Ended,
     }
 }

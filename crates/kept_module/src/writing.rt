@@ -101,7 +101,7 @@ pub fn record_of(session: Session) -> [u8; record::RECORD_BYTES]
     flat::spelled(&words_of(session))
 }
 
-// Whether the front of the bytes is the record of a session.
+// Whether the front of the bytes is the record of a session. octets::same and not ==, as `stands_for` speaks of same_bytes.
 pub(crate) fn stands(session: Session, state: &[u8]) -> bool
     ensures { result ≡ stands_for (words_of session) state.now }
 {

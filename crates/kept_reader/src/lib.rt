@@ -90,6 +90,7 @@ fn stands_for_one(state: &[u8]) -> bool
         && octets::four_at(state, PENDING) <= 1
 }
 
+// The bytes of the store in an array, as the library takes no memory.
 fn store_in(state: &[u8]) -> [u8; CONTENT_MOST]
     requires { reader_bytes ≤ length state.now }
     ensures { result ≡ part_of state.now store_place longest_content }

@@ -27,7 +27,7 @@ pub fn zeros(s: &[u8]) -> bool
     s.iter().all(|&byte| byte == 0)
 }
 
-// Whether two runs are the same, in length and byte for byte.
+// Whether two runs are the same, in length and byte for byte: == with its answer in the word of the definitions, same_bytes.
 #[tactic(auto, using(crate::proofs::Words::same_pointwise))]
 pub fn same(a: &[u8], b: &[u8]) -> bool
     ensures { result ≡ same_bytes a.now b.now }
@@ -55,7 +55,7 @@ pub fn fill(d: &mut [u8], at: usize, n: usize, byte: u8)
     }
 }
 
-// The smaller of two numbers.
+// The smaller of two numbers. No crate here calls it; it stays for who uses this one, which README names.
 pub fn least(a: usize, b: usize) -> usize
     ensures { result ≡ min a b }
 {

@@ -8,7 +8,7 @@ use refusals::Refusal;
 // Where the rate stands in the reply, behind head, Length, device and command.
 const RATE_PLACE: usize = 5;
 
-// An agreement is no longer than this.
+// An agreement is no longer than this; the library takes no memory, so it is written into an array.
 const AGREEMENT_MOST: usize = 16;
 
 // The rate that a reply agrees to; 0 for any other reply, since C's zrn_rate_agreed answers so and the contract promises agreed_in.
@@ -23,7 +23,7 @@ pub fn agreed_rate(reply: &[u8]) -> u8
     0
 }
 
-// Whether a reply is the one that agrees to a rate.
+// Whether a reply is the one that agrees to a rate. octets::same and not ==, as the contract speaks of same_bytes.
 fn is_agreement(rate: u8, reply: &[u8]) -> bool
     ensures { result ≡ same_bytes (agreement rate) reply.now }
 {

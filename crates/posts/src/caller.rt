@@ -13,6 +13,8 @@ pub struct Caller {
     pub dropped: usize,
 }
 
+// The caller handed back, and its answer. A struct of its own and no generic pair: statements name the parts, and `.caller` says
+// more than `.0`.
 #[derive(Clone, Copy)]
 pub struct CallerStep {
     pub caller: Caller,

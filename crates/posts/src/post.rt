@@ -24,6 +24,8 @@ pub struct Post {
     pub dropped: usize,
 }
 
+// The post handed back, and its answer. A struct of its own and no generic pair: statements name the parts, and `.post` says
+// more than `.0`.
 #[derive(Clone, Copy)]
 pub struct PostStep {
     pub post: Post,

@@ -24,6 +24,8 @@ pub enum Heard {
     Dropped,
 }
 
+// The reader handed back, and what the byte brought. A struct of its own and no generic pair: README and the statements name the parts, and
+// `.reader` says more than `.0`.
 #[derive(Clone, Copy)]
 pub struct Stepped {
     pub reader: Reader,
@@ -132,7 +134,7 @@ impl Reader {
     {
         Stepped {
             reader: self,
-            heard: heard,
+            heard,
         }
     }
 }

@@ -112,7 +112,7 @@ impl Load {
     fn parameters_move(self, rate: Rate, most: usize, ack: u8) -> Move
         ensures { result ≡ parameters_move self.plan self.image rate most ack }
     {
-        let size = octets::least(octets::least(most, LARGEST_PACKET), self.plan.wish);
+        let size = most.min(LARGEST_PACKET).min(self.plan.wish);
         by_ack(
             ack,
             self.size_move(rate, size),
@@ -190,6 +190,7 @@ pub fn line_move(plan: Plan, stage: Stage, line: &[u8]) -> Move
 fn text_move(first: Rate, line: &[u8]) -> Move
     ensures { result ≡ text_move first line.now }
 {
+    // Tried with ==: the clause, which says same_bytes, did not close.
     if octets::same(line, &commands::START_ANSWER) {
         return Move::Enter(Stage::Asking(first));
     }

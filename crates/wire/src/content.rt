@@ -11,7 +11,7 @@ pub const CONTENT_LEAST: usize = 5;
 
 pub const CONTENT_MOST: usize = 1035;
 
-// The content of a frame at the front of the longest content's room.
+// The content of a frame at the front of the longest content's room: an array, as the library takes no memory.
 pub(crate) fn content_of(command: u8, payload: &[u8]) -> [u8; CONTENT_MOST]
     requires { length payload.now ≤ longest_payload }
     ensures { (length result ≡ longest_content)

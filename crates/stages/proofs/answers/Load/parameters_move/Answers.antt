@@ -10,7 +10,7 @@ returns c =
       c.refuse-2.ensures,
       c.refuse.ensures,
       c.size_move.ensures,
-      c.least-size.ensures,
-      c.least.ensures,
+      c.min-size.ensures,
+      c.min.ensures,
       parameters_ack a.self.plan a.self.image a.rate a.most a.ack,
     )
