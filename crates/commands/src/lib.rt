@@ -38,7 +38,7 @@ pub const START_TEXT: [u8; 12] = *b"$PCAS20*03\r\n";
 
 pub const START_ANSWER: [u8; 14] = *b"$PCAS30,3*1D\r\n";
 
-// Writes 0x01: the rate.
+// Writes 0x01: the rate, by number, since `rate_frame` writes any.
 pub fn write_rate(rate: u8, out: &mut [u8]) -> Result<usize, Refusal>
     ensures { record { answer = result; output = out.new } ≡ write_of (rate_frame rate) out.old }
 {

@@ -145,7 +145,7 @@ impl Session {
     {
         match send(wait.plan, wait.stage, image, out) {
             Ok(n) => waiting(image.len(), wait).answers(Answer::Sent(n)),
-            Err(number) => self.answers(Answer::Refused(number)),
+            Err(refusal) => self.answers(Answer::Refused(refusal)),
         }
     }
 
@@ -159,7 +159,7 @@ impl Session {
                 passed,
                 count,
             }),
-            Err(none) => self.answers(Answer::Refused(none)),
+            Err(unsent) => self.answers(Answer::Refused(unsent)),
         }
     }
 

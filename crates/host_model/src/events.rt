@@ -2,7 +2,7 @@
 use refusals::Refusal;
 
 // A frame has arrived, with the first count bytes of the slice lent beside it as its payload; or a line of text, its CR LF with it, in
-// the first count bytes; or milliseconds have passed.
+// the first count bytes; or milliseconds have passed. The count is no slice's own: a step takes any (`step_of`, host/Step).
 #[derive(Clone, Copy, Debug, PartialEq, Eq)]
 pub enum Event {
     Frame { command: u8, count: usize },

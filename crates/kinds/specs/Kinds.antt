@@ -1,6 +1,7 @@
 -- The three types of image as document 01 has them. Their names are those of document 001's table of types.
-use Rattle.std.specs.Prelude.{ℕ, ◌+◌, ◌%◌, Bool, cond, ◌&&◌, eqb, leb, None, Option, Some}
+use Rattle.std.specs.Prelude.{ℕ, ◌+◌, ◌%◌, Bool, cond, ◌&&◌, ◌≡◌, eqb, leb, None, Option, Some, Result, MatchResult}
 use Rattle.kinds.specs.declared.Kind.{Kind}
+use Rattle.kinds.specs.declared.UnknownType.{UnknownType}
 use Rattle.kinds.specs.declared.Kind.TheVariants.{Navigation, Upgrade, Parameters}
 
 -- Type 1 is navigation code, type 2 the upgrade code itself, type 3 the working parameters.
@@ -11,6 +12,10 @@ number_of Parameters = 3
 
 unfoldable pub kind_of : ℕ → Option Kind
 kind_of n = cond (eqb n 1) (Some Navigation) (cond (eqb n 2) (Some Upgrade) (cond (eqb n 3) (Some Parameters) None))
+
+-- The kind of a type number, or the number, if no kind has it.
+abbrev pub Typed : ℕ → Result Kind UnknownType → Type 0
+Typed n r = MatchResult r (λ kind. kind_of n ≡ Some kind) (λ e. (e.0 ≡ n) × (kind_of n ≡ None))
 
 -- Type and address pair as 1: 0x8000, 2: 0x0000, 3: 0x3E000.
 abbrev pub base_of : Kind → ℕ

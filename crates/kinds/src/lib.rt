@@ -2,8 +2,9 @@
 #![tactic(auto)]
 
 ghost use Rattle.std.specs.Prelude.{◌≡◌};
-ghost use Rattle.kinds.specs.Kinds.{kind_of, number_of, base_of, token_of, fits_file, fits_flash};
+ghost use Rattle.kinds.specs.Kinds.{kind_of, number_of, base_of, token_of, fits_file, fits_flash, Typed};
 
+use std::error::Error;
 use std::fmt;
 
 #[derive(Clone, Copy, Debug, PartialEq, Eq)]
@@ -27,27 +28,59 @@ impl fmt::Display for Kind {
     }
 }
 
+// A type number that no kind has.
+#[derive(Clone, Copy, Debug, PartialEq, Eq)]
+pub struct UnknownType(pub u16);
+
+// The type number of a kind, as files and commands carry it.
+impl From<Kind> for u16 {
+    ghost from_gives = { λ kind number. number ≡ number_of kind };
+
+    fn from(kind: Kind) -> u16 {
+        match kind {
+            Kind::Navigation => 1,
+            Kind::Upgrade => 2,
+            Kind::Parameters => 3,
+        }
+    }
+}
+
+impl TryFrom<u16> for Kind {
+    type Error = UnknownType;
+
+    ghost try_from_gives = { Typed };
+
+    #[tactic(auto, unfolding(crate::specs::Kinds::kind_of))]
+    fn try_from(number: u16) -> Result<Self, UnknownType> {
+        match number {
+            1 => Ok(Kind::Navigation),
+            2 => Ok(Kind::Upgrade),
+            3 => Ok(Kind::Parameters),
+            _ => Err(UnknownType(number)),
+        }
+    }
+}
+
+impl fmt::Display for UnknownType {
+    fn fmt<W: fmt::Write>(&self, f: &mut fmt::Formatter<W>) -> fmt::Result {
+        f.write_str("unknown type number")
+    }
+}
+
+impl Error for UnknownType {}
+
 // The kind of a type number, if there is one.
 pub fn kind_of(number: u16) -> Option<Kind>
     ensures { result ≡ kind_of number }
 {
-    match number {
-        1 => Some(Kind::Navigation),
-        2 => Some(Kind::Upgrade),
-        3 => Some(Kind::Parameters),
-        _ => None,
-    }
+    Kind::try_from(number).ok()
 }
 
-// The type number of a kind, as files and commands carry it.
+// The type number of a kind.
 pub fn number_of(kind: Kind) -> u16
     ensures { result ≡ number_of kind }
 {
-    match kind {
-        Kind::Navigation => 1,
-        Kind::Upgrade => 2,
-        Kind::Parameters => 3,
-    }
+    u16::from(kind)
 }
 
 // Where the image of a kind begins in the flash; a file carries this address.
@@ -73,27 +106,17 @@ pub fn token_of(kind: Kind) -> u32
 }
 
 // Whether a file may carry an image of this length for the kind.
+#[tactic(auto, unfolding(crate::specs::Kinds::fits_file))]
 pub fn fits_file(kind: Kind, extent: usize) -> bool
     ensures { result ≡ fits_file kind extent }
 {
-    if extent == 0 {
-        return false;
-    }
-    if IMAGE_MOST < extent {
-        return false;
-    }
-    extent % 4 == 0
+    1 <= extent && extent <= IMAGE_MOST && extent % 4 == 0
 }
 
 // Whether an image of this length, laid at the kind's address, lies within a flash.
+#[tactic(auto, unfolding(crate::specs::Kinds::fits_flash))]
 pub fn fits_flash(kind: Kind, extent: usize, flash: usize) -> bool
     ensures { result ≡ fits_flash kind extent flash }
 {
-    if extent == 0 {
-        return false;
-    }
-    if extent > IMAGE_MOST {
-        return false;
-    }
-    base_of(kind) as usize + extent <= flash
+    1 <= extent && extent <= IMAGE_MOST && base_of(kind) as usize + extent <= flash
 }

@@ -23,7 +23,8 @@ pub fn step(
     next.answer
 }
 
-// The same by value, through a session that is lent for the call.
+// The same by value, through a session that is lent for the call. The contract is that of `Session::step`: PROMISES (M6) shows by both that
+// the two ways of lending say the same.
 pub fn lend(
     mut session: Session,
     event: Event,

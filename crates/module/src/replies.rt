@@ -48,7 +48,7 @@ fn last(number: usize, state: u8, reply: &mut Reply) -> usize
     n + one(commands::NOTICE, &[state], &mut reply[n..])
 }
 
-// One frame of at most three payload bytes.
+// One frame of at most three payload bytes. Its length and the room are required, so the writer refuses nothing.
 fn one(command: u8, payload: &[u8], reply: &mut [u8]) -> usize
     requires { (length payload.now ≤ short_payload) × (short_wire ≤ length reply.old) }
     ensures { Wrote (frame command payload.now) result reply.old reply.new }

@@ -1,4 +1,4 @@
-// Numbers of two and four bytes, low byte first.
+// Numbers of two and four bytes, low byte first. A call for each size over one generic: no trait of std has from_le_bytes and to_le_bytes.
 ghost use Rattle.std.specs.Prelude.{◌≡◌, get_or, replicate};
 ghost use Rattle.octets.specs.Octets.{number_at, part_of, spelled, laid};
 

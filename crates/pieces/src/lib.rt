@@ -33,7 +33,7 @@ pub fn piece(image: &[u8], size: usize, number: usize) -> &[u8]
     }
 }
 
-// How many pieces stand before one.
+// How many pieces stand before one. A public call that edits hold, so it stays beside std's.
 pub fn before(number: usize) -> usize
     ensures { result ≡ number - 1 }
 {

@@ -16,7 +16,8 @@ pub struct Reader {
     pub pending: bool,
 }
 
-// What a byte brought. A frame's payload is the next count bytes of the store behind Length, device and command.
+// What a byte brought. A frame's payload is the next count bytes of the store behind Length, device and command: the store goes out with the
+// reader, so no slice of it can stand here.
 #[derive(Clone, Copy)]
 pub enum Heard {
     Nothing,
@@ -144,8 +145,7 @@ fn is_frame(store: &[u8; CONTENT_MOST], count: usize) -> bool
     requires { count ≤ longest_content }
     ensures { result ≡ is_content (take count store.now) }
 {
-    let all: &[u8] = store;
-    wire::is_content(&all[..count])
+    wire::is_content(&store[..count])
 }
 
 // The payload of a handed-out frame, as a part of the store that the reader carries.

@@ -1,5 +1,5 @@
 // The walk over the blocks of a file: it calls itself on the part that remains, which falls by a block each time.
-// A loop would be no plainer: it has to read at two places, in its body and behind it.
+// A loop would be no plainer: it needs an answer behind its last turn, which no file reaches.
 ghost use Rattle.std.specs.Prelude.{◌≡◌, ◌+◌, ◌^◌, ◌≤◌, ◌<◌, length};
 ghost use Rattle.ubf_model.specs.Walk.{block_at, nth_from};
 

@@ -1,5 +1,4 @@
-// What a block is written from, besides its texts and its image.
-// The numbers that a block carries besides its image's length, which is the image's own.
+// The numbers that a block is written from: what a caller wishes, so any type number and address may come, and `pack_of` refuses those of no type.
 #[derive(Clone, Copy)]
 pub struct Numbers {
     pub number: u16,

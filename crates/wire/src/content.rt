@@ -28,21 +28,14 @@ pub(crate) fn content_of(command: u8, payload: &[u8]) -> [u8; CONTENT_MOST]
 }
 
 // Whether content is that of a frame for our device.
+#[tactic(auto, unfolding(crate::specs::Frame::is_content))]
 pub fn is_content(content: &[u8]) -> bool
     ensures { result ≡ is_content content.now }
 {
     let n = content.len();
-    if n < CONTENT_LEAST {
-        return false;
-    }
-    if CONTENT_MOST < n {
-        return false;
-    }
-    if octets::two_at(content, 0) as usize != n - 2 {
-        return false;
-    }
-    if octets::byte_at(content, 2) != DEVICE {
-        return false;
-    }
-    octets::byte_at(content, n - 1) == octets::xor(&content[..n - 1])
+    CONTENT_LEAST <= n
+        && n <= CONTENT_MOST
+        && usize::from(octets::two_at(content, 0)) == n - 2
+        && octets::byte_at(content, 2) == DEVICE
+        && octets::byte_at(content, n - 1) == octets::xor(&content[..n - 1])
 }

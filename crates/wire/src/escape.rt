@@ -1,6 +1,6 @@
 // The marks, and how a content byte that looks like one is escaped.
 ghost use Rattle.std.specs.Prelude.{◌≡◌};
-ghost use Rattle.wire.specs.Escape.{one_of, is_mark, second_of, may_follow, original_of};
+ghost use Rattle.wire.specs.Escape.{is_mark, second_of, may_follow, original_of};
 
 pub const HEAD: u8 = 0xDB;
 
@@ -12,10 +12,11 @@ pub const TAIL: u8 = 0xDE;
 const MASK: u8 = 0x10;
 
 // Whether a content byte has to be escaped.
+#[tactic(auto, unfolding(crate::specs::Escape::is_mark))]
 pub(crate) fn is_mark(byte: u8) -> bool
     ensures { result ≡ is_mark byte }
 {
-    one_of(byte, HEAD, ESCAPE, TAIL)
+    matches!(byte, HEAD | ESCAPE | TAIL)
 }
 
 // What follows the escape on the wire in place of a mark.
@@ -26,10 +27,11 @@ pub(crate) fn second(byte: u8) -> u8
 }
 
 // Whether a byte may follow the escape.
+#[tactic(auto, unfolding(crate::specs::Escape::may_follow))]
 pub fn may_follow(byte: u8) -> bool
     ensures { result ≡ may_follow byte }
 {
-    one_of(byte, 0xCB, 0xCC, 0xCE)
+    matches!(byte, 0xCB | 0xCC | 0xCE)
 }
 
 // The content byte that the escape and this byte stand for; the tail where it may not follow.
@@ -37,16 +39,4 @@ pub fn original(byte: u8) -> u8
     ensures { result ≡ original_of byte }
 {
     if may_follow(byte) { byte ^ MASK } else { TAIL }
-}
-
-fn one_of(byte: u8, x: u8, y: u8, z: u8) -> bool
-    ensures { result ≡ one_of byte x y z }
-{
-    if byte == x {
-        return true;
-    }
-    if byte == y {
-        return true;
-    }
-    byte == z
 }
