@@ -20,6 +20,7 @@ pub(crate) fn is_mark(byte: u8) -> bool
 }
 
 // What follows the escape on the wire in place of a mark.
+#[tactic(auto, unfolding(crate::specs::Escape::second_of))]
 pub(crate) fn second(byte: u8) -> u8
     ensures { result ≡ second_of byte }
 {
@@ -35,6 +36,7 @@ pub fn may_follow(byte: u8) -> bool
 }
 
 // The content byte that the escape and this byte stand for; the tail where it may not follow.
+#[tactic(auto, unfolding(crate::specs::Escape::original_of))]
 pub fn original(byte: u8) -> u8
     ensures { result ≡ original_of byte }
 {
