@@ -15,6 +15,7 @@ pub(crate) enum Move {
 }
 
 // The head always opens a frame. Outside a frame every other byte is passed over.
+#[tactic(auto, unfolding(crate::specs::Moves::move_of))]
 pub(crate) fn move_of(count: usize, opened: bool, pending: bool, byte: u8) -> Move
     ensures { result ≡ move_of count opened pending byte }
 {
@@ -27,6 +28,7 @@ pub(crate) fn move_of(count: usize, opened: bool, pending: bool, byte: u8) -> Mo
     Move::Pass
 }
 
+#[tactic(auto, unfolding(crate::specs::Moves::inside_move))]
 fn inside(count: usize, pending: bool, byte: u8) -> Move
     ensures { result ≡ inside_move count pending byte }
 {
@@ -43,6 +45,7 @@ fn inside(count: usize, pending: bool, byte: u8) -> Move
 }
 
 // A pending escape at the tail is a bad one.
+#[tactic(auto, unfolding(crate::specs::Moves::tail_move))]
 fn tail(pending: bool) -> Move
     ensures { result ≡ tail_move pending }
 {
@@ -53,6 +56,7 @@ fn tail(pending: bool) -> Move
 }
 
 // The byte after the escape.
+#[tactic(auto, unfolding(crate::specs::Moves::follow_move))]
 fn follow(count: usize, byte: u8) -> Move
     ensures { result ≡ follow_move count byte }
 {
@@ -62,6 +66,7 @@ fn follow(count: usize, byte: u8) -> Move
     Move::Drop
 }
 
+#[tactic(auto, unfolding(crate::specs::Moves::content_move))]
 fn content(count: usize, byte: u8) -> Move
     ensures { result ≡ content_move count byte }
 {

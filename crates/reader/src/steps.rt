@@ -35,6 +35,7 @@ pub struct Stepped {
 
 impl Reader {
     // A reader at the start.
+    #[tactic(auto, unfolding(crate::specs::Reader::fresh))]
     pub fn new() -> Reader
         ensures { result ≡ fresh }
     {
@@ -47,6 +48,7 @@ impl Reader {
     }
 
     // Takes one byte. Any reader may be handed in: one with a count over 1,035 is taken as a fresh one.
+    #[tactic(auto, using(crate::specs::MovesLaws::HasRoom, crate::specs::MovesLaws::move_room), unfolding(crate::specs::Reader::step_of, crate::specs::Reader::known_step))]
     pub fn step(self, byte: u8) -> Stepped
         ensures { result ≡ step_of self byte }
     {
@@ -62,6 +64,7 @@ impl Reader {
         }
     }
 
+    #[tactic(auto, unfolding(crate::specs::Reader::known_of, crate::specs::Reader::fresh))]
     fn known(self) -> Reader
         ensures { (result ≡ known_of self) × (result.count ≤ longest_content) }
     {
@@ -106,6 +109,7 @@ impl Reader {
     }
 
     // The tail closes, and hands out the frame if there is one.
+    #[tactic(auto, unfolding(wire::specs::Frame::is_content, crate::specs::Reader::held_of))]
     fn ends(self) -> Stepped
         requires { self.count ≤ longest_content }
         ensures { result ≡ moved_by Move.End self }

@@ -11,6 +11,7 @@ use crate::escape::{ESCAPE, HEAD, TAIL, is_mark, second};
 use refusals::Refusal;
 
 // Writes the wire form of a frame into the output.
+#[tactic(auto, using(crate::specs::WriteLaws::write_too_long, crate::specs::WriteLaws::write_no_room, crate::specs::WriteLaws::write_done), unfolding(crate::specs::Frame::wire_of))]
 pub fn write(command: u8, payload: &[u8], out: &mut [u8]) -> Result<usize, Refusal>
     ensures { record { answer = result; output = out.new }
         ≡ write_of (frame command payload.now) out.old }
@@ -37,6 +38,7 @@ fn size_of(content: &[u8]) -> usize
 }
 
 // How many bytes a content byte takes on the wire.
+#[tactic(auto, using(crate::specs::WriteLaws::width_mark, crate::specs::WriteLaws::width_plain))]
 fn width(byte: u8) -> usize
     ensures { (result ≡ length (escape_of byte)) × (result ≤ 2) }
 {
