@@ -13,11 +13,6 @@ returns-in-Line c =
     let go = c.line_move.ensures ∙ ap (line_move w.plan w.stage) c.part-part-in-Line.ensures in
     c.move_next-in-Line.ensures ∙ ap (move_next w) go ∙ sym (ap (λ e. event_next w a.image e a.bytes.now) c.in-Line.is)
 
-pub returns-in-Elapsed : goal.returns-in-Elapsed
-returns-in-Elapsed c =
-    let a = c.args in
-    c.time_next.ensures ∙ sym (ap (λ e. event_next a.wait a.image e a.bytes.now) c.in-Elapsed.is)
-
 pub returns-in-Frame : goal.returns-in-Frame
 unfolding part_of
 returns-in-Frame c =
