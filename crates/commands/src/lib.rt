@@ -46,6 +46,7 @@ pub fn write_rate(rate: u8, out: &mut [u8]) -> Result<usize, Refusal>
 }
 
 // Writes 0x02: type, length and token of an image. Payloads are arrays, as the library takes no memory.
+#[tactic(auto, using(crate::specs::CommandsLaws::parameters_built))]
 pub fn write_parameters(kind: Kind, extent: usize, out: &mut [u8]) -> Result<usize, Refusal>
     ensures { record { answer = result; output = out.new } ≡ write_of (parameters_frame kind extent) out.old }
 {
@@ -57,6 +58,7 @@ pub fn write_parameters(kind: Kind, extent: usize, out: &mut [u8]) -> Result<usi
 }
 
 // Writes 0x05: Total, PkNo, PkSize and the piece, which is a part of the image.
+#[tactic(auto, using(wire::specs::WriteLaws::write_too_long, crate::specs::CommandsLaws::length_packet, crate::specs::CommandsLaws::packet_built))]
 pub fn write_packet(
     image: &[u8],
     size: usize,

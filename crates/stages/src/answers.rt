@@ -109,6 +109,7 @@ impl Reply<'_> {
 
 impl Load {
     // MaxPk and ACK.
+    #[tactic(auto, using(host_model::proofs::AnswersLaws::parameters_ack))]
     fn parameters_move(self, rate: Rate, most: usize, ack: u8) -> Move
         ensures { result ≡ parameters_move self.plan self.image rate most ack }
     {
@@ -122,6 +123,7 @@ impl Load {
     }
 
     // Packets begin, unless the piece size is 0 or there are more than 65,535 pieces.
+    #[tactic(auto, using(host_model::proofs::AnswersLaws::size_begins, host_model::proofs::AnswersLaws::size_stops))]
     fn size_move(self, rate: Rate, size: usize) -> Move
         ensures { result ≡ size_move rate self.image size }
     {
@@ -139,6 +141,7 @@ impl Load {
     }
 
     // PkNo and ACK; PkNo 0 fits with ACK 01 or 10.
+    #[tactic(auto, using(host_model::proofs::AnswersLaws::packet_this, host_model::proofs::AnswersLaws::packet_none, host_model::proofs::AnswersLaws::packet_other))]
     fn packet_move(self, rate: Rate, size: usize, number: usize, given: usize, ack: u8) -> Move
         ensures { result ≡ packet_move self.plan self.image rate size number given ack }
     {
@@ -158,6 +161,7 @@ impl Load {
     }
 
     // After an accepted packet the next, after the last the notice.
+    #[tactic(auto, using(host_model::proofs::AnswersLaws::accepted_last, host_model::proofs::AnswersLaws::accepted_before))]
     fn accepted_move(self, rate: Rate, size: usize, number: usize) -> Move
         ensures { result ≡ accepted_move self.image rate size number }
     {
@@ -211,6 +215,7 @@ fn by_ack(ack: u8, yes: Move, first: Move, second: Move) -> Move
 }
 
 // The rate asked for with its ACK; rate 0 fits with ACK 10.
+#[tactic(auto, using(host_model::proofs::AnswersLaws::rate_asked, host_model::proofs::AnswersLaws::rate_none, host_model::proofs::AnswersLaws::rate_other))]
 fn rate_move(asked: Rate, rate: u8, ack: u8) -> Move
     ensures { result ≡ rate_move asked rate ack }
 {
@@ -261,6 +266,7 @@ fn same_move(same: Same, accepted: Move) -> Move
 }
 
 // State 0 is success, any other is passed on.
+#[tactic(auto, using(host_model::proofs::AnswersLaws::notice_good, host_model::proofs::AnswersLaws::notice_bad))]
 fn notice_move(rate: Rate, size: usize, state: u8) -> Move
     ensures { result ≡ notice_move rate size state }
 {
