@@ -18,6 +18,7 @@ pub fn show(bytes: &[u8], out: &mut [u8]) -> usize
     shown.len() * 2
 }
 
+#[tactic(auto, unfolding(crate::specs::Hex::digit_of))]
 fn digit(n: u8) -> u8
     requires { n < 16 }
     ensures { result ≡ digit_of n }

@@ -10,6 +10,7 @@ use rates::rate_number;
 use refusals::Refusal;
 
 // The message of a stage.
+#[tactic(auto, using(commands::specs::CommandsLaws::length_parameters, host_model::proofs::MessagesLaws::sent_frame, host_model::proofs::MessagesLaws::sent_packet, host_model::proofs::StagesLaws::small_same))]
 pub(crate) fn send(plan: Plan, stage: Stage, image: &[u8], out: &mut [u8]) -> Result<usize, Refusal>
     requires { Small stage }
     ensures { record { answer = result; output = out.new }
@@ -27,6 +28,7 @@ pub(crate) fn send(plan: Plan, stage: Stage, image: &[u8], out: &mut [u8]) -> Re
     }
 }
 
+#[tactic(auto, using(host_model::proofs::MessagesLaws::sent_frame))]
 pub(crate) fn send_restart(out: &mut [u8]) -> Result<usize, Refusal>
     ensures { record { answer = result; output = out.new } ≡ sent_of (goes_out restart_frame) out.old }
 {

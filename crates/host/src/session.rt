@@ -30,6 +30,7 @@ pub struct Stepped {
 
 impl Session {
     // Opens a session: 6, 8, then 2; else the first text or frame stands at the front of the output.
+    #[tactic(auto, using(host_model::proofs::NextsLaws::plan_small, host_model::proofs::NextsLaws::small_next_same), unfolding(crate::specs::Step::opening_of))]
     pub fn opening(
         number: u16,
         image: &[u8],
@@ -108,6 +109,7 @@ impl Session {
     }
 
     // Whether the numbers of the session could arise; one whose numbers could not is taken as ended.
+    #[tactic(auto, unfolding(crate::specs::Session::arises))]
     pub fn can_arise(self) -> bool
         ensures { result ≡ arises self }
     {
@@ -115,6 +117,7 @@ impl Session {
     }
 
     // How far the session is taken to be.
+    #[tactic(auto, using(crate::specs::StepLaws::taken_arisen, crate::specs::StepLaws::taken_never))]
     fn taken(self) -> Phase
         ensures { result ≡ taken_phase self }
     {

@@ -36,6 +36,7 @@ pub fn same(a: &[u8], b: &[u8]) -> bool
 }
 
 // s laid into d from a place on: as much of it as fits.
+#[tactic(auto, using(crate::proofs::OctetsLaws::laid_past, crate::proofs::Words::laid_mid))]
 pub fn copy(s: &[u8], d: &mut [u8], at: usize)
     ensures { d.new ≡ laid d.old at s.now }
 {

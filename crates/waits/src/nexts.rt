@@ -8,6 +8,7 @@ use refusals::Refusal;
 
 // What follows an event, over an image of this length. Payload and line are the first count bytes of the slice, or all of it where
 // it is shorter.
+#[tactic(auto, unfolding(octets::specs::Octets::part_of))]
 pub fn event_next(wait: Wait, image: usize, event: Event, bytes: &[u8]) -> Next
     ensures { result ≡ event_next wait image event bytes.now }
 {
@@ -43,6 +44,7 @@ fn move_next(wait: Wait, go: Move) -> Next
 }
 
 // Milliseconds are counted; once they reach the limit, the message is due again.
+#[tactic(auto, using(host_model::proofs::NextsLaws::time_short, host_model::proofs::NextsLaws::time_up))]
 fn time_next(wait: Wait, ms: u32) -> Next
     ensures { result ≡ time_next wait ms }
 {
@@ -57,6 +59,7 @@ fn time_next(wait: Wait, ms: u32) -> Next
 }
 
 // The message of the stage again, at most 3 times.
+#[tactic(auto, using(host_model::proofs::NextsLaws::resend_more, host_model::proofs::NextsLaws::resend_enough))]
 fn resend_next(wait: Wait) -> Next
     ensures { result ≡ resend_next wait }
 {
@@ -78,6 +81,7 @@ fn after_repeats(wait: Wait) -> Next
 }
 
 // An opening with a known type.
+#[tactic(auto, using(host_model::proofs::NextsLaws::plan_begins, host_model::proofs::NextsLaws::plan_refused))]
 pub fn plan_next(plan: Plan, image: usize) -> Next
     ensures { result ≡ plan_next plan image }
 {
