@@ -35,6 +35,7 @@ impl HostEnd {
     }
 
     // Takes one byte from the line. A frame that it completes, or the answer to the start text, is given to the session.
+    #[tactic(auto, unfolding(crate::specs::HostEnd::host_hears))]
     pub fn hear(self, byte: u8, image: &[u8], out: &mut [u8]) -> HostStep
         ensures { host_left result out.new ≡ host_hears self byte image.now out.old }
     {
@@ -52,6 +53,7 @@ impl HostEnd {
     }
 
     // Milliseconds pass.
+    #[tactic(auto, unfolding(crate::specs::HostEnd::host_waits))]
     pub fn wait(self, ms: u32, image: &[u8], out: &mut [u8]) -> HostStep
         ensures { host_left result out.new ≡ host_waits self ms image.now out.old }
     {
@@ -70,6 +72,7 @@ impl HostEnd {
     }
 
     // The session takes a frame that the reader has handed out; its payload stands in the reader's store.
+    #[tactic(auto, unfolding(crate::specs::HostEnd::frame_heard))]
     fn frame(self, command: u8, count: usize, image: &[u8], out: &mut [u8]) -> HostStep
         ensures { host_left result out.new
             ≡ frame_heard self.reader self.seen self.session command count image.now out.old }
@@ -82,6 +85,7 @@ impl HostEnd {
     }
 
     // No frame: the session takes the answer to the start text if this byte was its last.
+    #[tactic(auto, unfolding(crate::specs::HostEnd::line_heard))]
     fn line(self, dropped: bool, image: &[u8], out: &mut [u8]) -> HostStep
         ensures { host_left result out.new
             ≡ line_heard self.reader self.seen self.session dropped image.now out.old }

@@ -3,6 +3,7 @@ ghost use Rattle.std.specs.Prelude.{◌≡◌};
 ghost use Rattle.host_end.specs.Text.{followed, stands};
 
 // One more byte: it is the next of the text, or the first of a new one, or the text is not under way.
+#[tactic(auto, unfolding(crate::specs::Text::stands, crate::specs::Text::followed))]
 pub fn follow(text: &[u8], seen: usize, byte: u8) -> usize
     ensures { result ≡ followed text.now seen byte }
 {

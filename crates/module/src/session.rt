@@ -62,7 +62,7 @@ impl Session {
     }
 
     // Takes one event. The payload is the first count bytes of the slice, or all of it where it is shorter.
-    #[tactic(auto, unfolding(crate::specs::Step::step_of))]
+    #[tactic(auto, using(crate::proofs::Room::wider, crate::proofs::Room::step_front), unfolding(crate::specs::Step::step_of))]
     pub fn step(self, event: Event, payload: &[u8], flash: &mut [u8], reply: &mut [u8]) -> Stepped
         ensures { left result flash.new reply.new
             ≡ step_of self event payload.now flash.old reply.old }
@@ -201,7 +201,7 @@ fn is_cut(pieces: Pieces) -> bool
         && pieces::count(pieces.transfer.extent, pieces.size) <= LARGEST_TOTAL
 }
 
-#[tactic(auto, unfolding(module_model::specs::Phases::loading_arises))]
+#[tactic(auto, using(module_model::proofs::PhasesLaws::cuts_facts), unfolding(module_model::specs::Phases::loading_arises))]
 fn is_loading(pieces: Pieces, flash: usize, number: usize, written: usize) -> bool
     ensures { result ≡ loading_arises pieces flash number written }
 {
