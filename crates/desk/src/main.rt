@@ -115,11 +115,7 @@ impl<P: Print> Desk<'_, '_, P> {
     // People count from 1.
     fn show_block(&self, n: usize, block: Block) {
         let ordinal = n.wrapping_add(1);
-        let placed = Placed {
-            image: block.kind,
-            extent: block.extent,
-            start: block.start,
-        };
+        let placed = Placed(block);
         let _ = println!(self.rt; "block {ordinal}: {placed}");
     }
 
