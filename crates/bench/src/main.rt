@@ -22,7 +22,7 @@ fn try_write(rt: &impl Print, payload: &[u8], out: &mut [u8]) -> io::Result<()> 
     let length = payload.len();
     let room = out.len();
     print!(rt; "payload {length}, output {room}: ")?;
-    match wire::write(0x05, payload, out) {
+    match wire::write(commands::PACKET, payload, out) {
         Ok(count) => println!(rt; "{count} bytes written"),
         Err(refusal) => rt.println(Refused(refusal)),
     }

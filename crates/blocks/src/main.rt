@@ -65,12 +65,9 @@ fn list(rt: &impl Print, file: &[u8]) -> io::Result<()> {
 }
 
 fn show_block(rt: &impl Print, n: usize, block: Block, bytes: &[u8]) -> io::Result<()> {
-    let ordinal = ordinal(n);
-    let placed = Placed {
-        image: block.kind,
-        extent: block.extent,
-        start: block.start,
-    };
+    // People count from 1.
+    let ordinal = n.wrapping_add(1);
+    let placed = Placed(block);
     let model = Text(ubf::model(bytes));
     let version = Text(ubf::version(bytes));
     let name = Text(ubf::file_name(bytes));
@@ -81,13 +78,8 @@ fn show_block(rt: &impl Print, n: usize, block: Block, bytes: &[u8]) -> io::Resu
     )
 }
 
-// People count from 1.
-fn ordinal(n: usize) -> usize {
-    n.wrapping_add(1)
-}
-
 fn show_fault(rt: &impl Print, refusal: Refusal, place: usize, count: usize) -> io::Result<()> {
-    let ordinal = ordinal(count);
+    let ordinal = count.wrapping_add(1);
     let refused = Refused(refusal);
     println!(rt; "block {ordinal}: {refused}, at byte {place} of the file")?;
     println!(rt; "{count} good before it")

@@ -18,7 +18,8 @@ pub const FILE: usize = 524288;
 // The most bytes of a flash, and so of any image.
 pub const FLASH: usize = 262144;
 
-// What is longer than any path opens nothing, as no name does.
+// What is longer than any path opens nothing, as no name does. It stays a slice, and no Option: programs go on to open the empty name, and
+// say why the system has none.
 pub fn openable(path: &[u8]) -> &[u8] {
     if path.len() <= PATH { path } else { b"" }
 }
@@ -71,6 +72,7 @@ pub struct SystemWords<'a>(pub &'a io::Error);
 
 impl fmt::Display for SystemWords<'_> {
     fn fmt<W: fmt::Write>(&self, f: &mut fmt::Formatter<W>) -> fmt::Result {
+        // A fixed room: a Display is given no allocator.
         let mut room = Cursor::new([0u8; 128]);
         // What the room has no place for is left out.
         let _ = write!(room, "{}", self.0);
@@ -112,7 +114,7 @@ pub enum Unwritten {
 }
 
 impl Unwritten {
-    // Says so on standard error.
+    // Says so on standard error. The path goes there as bytes, and in no Display: it need not be text.
     pub fn tell(&self, err: &impl Print, path: &[u8]) {
         match self {
             Unwritten::Whole(why) => fail(err, path, why),
@@ -134,33 +136,28 @@ pub fn write_file(
     if path.len() > WRITTEN_PATH {
         return Err(Unwritten::Whole(FileError::LongName));
     }
-    let Ok(name) = str::from_utf8(path) else {
-        return Err(Unwritten::Part(FileError::NoText));
-    };
-    match format!(in rt.alloc(); "{name}.part") {
-        Ok(part) => write_as(rt, &part, name, bytes),
-        Err(error) => Err(Unwritten::Part(FileError::from(error))),
-    }
+    let name = str::from_utf8(path).map_err(part_failed)?;
+    let part = format!(in rt.alloc(); "{name}.part").map_err(part_failed)?;
+    write_as(rt, &part, name, bytes)
 }
 
 fn write_as(rt: &impl Files, part: &str, name: &str, bytes: &[u8]) -> Result<(), Unwritten> {
     let file = File::create(rt, part).map_err(part_failed)?;
-    let written = match keep(file, bytes) {
-        Ok(()) => fs::rename(rt, part, name).map_err(whole_failed),
-        Err(error) => Err(part_failed(error)),
-    };
+    let written = keep(file, bytes)
+        .map_err(part_failed)
+        .and_then(|()| fs::rename(rt, part, name).map_err(whole_failed));
     if written.is_err() {
         let _ = fs::remove_file(rt, part);
     }
     written
 }
 
-fn part_failed(error: io::Error) -> Unwritten {
-    Unwritten::Part(FileError::System(error))
+fn part_failed(why: impl Into<FileError>) -> Unwritten {
+    Unwritten::Part(why.into())
 }
 
-fn whole_failed(error: io::Error) -> Unwritten {
-    Unwritten::Whole(FileError::System(error))
+fn whole_failed(why: impl Into<FileError>) -> Unwritten {
+    Unwritten::Whole(why.into())
 }
 
 // All bytes, and then until they are kept.

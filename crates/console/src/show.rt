@@ -1,7 +1,7 @@
 // What programs print: each is a Display, so that it stands in a format among words and numbers.
-use kinds::Kind;
 use refusals::Refusal;
 use std::fmt;
+use ubf_model::Block;
 
 // A line that says what failed, and why.
 pub fn fail(to: &impl Print, what: &[u8], why: &(impl fmt::Display + Drop)) {
@@ -19,20 +19,37 @@ impl fmt::Display for Refused {
     }
 }
 
+// The module's byte that is passed on beside a refusal: beside 21 an ACK, beside 22 a State.
+#[derive(Clone, Copy)]
+pub struct Passed {
+    pub refusal: Refusal,
+    pub passed: u8,
+}
+
+impl fmt::Display for Passed {
+    fn fmt<W: fmt::Write>(&self, f: &mut fmt::Formatter<W>) -> fmt::Result {
+        let what = match self.refusal {
+            Refusal::ModuleRefused => "ACK",
+            _ => "State",
+        };
+        let refused = Refused(self.refusal);
+        write!(f, "{refused}, {what} {:02X} passed on", self.passed)
+    }
+}
+
 // Where an image goes and where it stands in its block.
 #[derive(Clone, Copy)]
-pub struct Placed {
-    pub image: Kind,
-    pub extent: u32,
-    pub start: u32,
-}
+pub struct Placed(pub Block);
 
 impl fmt::Display for Placed {
     fn fmt<W: fmt::Write>(&self, f: &mut fmt::Formatter<W>) -> fmt::Result {
-        let kind = self.image;
-        let base = kinds::base_of(self.image);
-        let extent = self.extent;
-        let start = self.start;
+        let Block {
+            kind,
+            extent,
+            start,
+            ..
+        } = self.0;
+        let base = kinds::base_of(kind);
         write!(
             f,
             "{kind}, address 0x{base:08X}, length {extent}, start {start}"
@@ -65,10 +82,7 @@ pub struct Text<'a>(pub &'a [u8]);
 
 impl fmt::Display for Text<'_> {
     fn fmt<W: fmt::Write>(&self, f: &mut fmt::Formatter<W>) -> fmt::Result {
-        for &byte in self.0 {
-            if byte == 0 {
-                break;
-            }
+        for &byte in self.0.iter().take_while(|&&byte| byte != 0) {
             f.write_char(shown(byte))?;
         }
         Ok(())

@@ -1,19 +1,24 @@
 // The words that a program was started with, and numbers among them.
+ghost use Rattle.std.specs.Prelude.{◌≤◌};
+
 use std::alloc::AllocError;
 use std::env::FillError;
 use std::rt::Env;
 use std::str;
 
+// The room that an argument is read into first.
+const ROOM: usize = 256;
 // More digits are no number that is taken.
 const DIGITS: usize = 16;
 // A number of which all but the last digit are more is not taken.
 const LARGEST: u64 = 4294967295;
 
-// All arguments, the program's own name first. They are bytes as the system gives them, since a name need not be text.
+// All arguments, the program's own name first. They are bytes as the system gives them, since a name need not be text:
+// std's env::args refuses one that is none, so they are asked for one by one.
 pub fn arguments<R: Env + AllocGlobal>(rt: &R) -> Result<Vec<Vec<u8>>, AllocError> {
     let mut all = Vec::new(rt.alloc());
     for i in 0..usize::MAX {
-        match argument(rt, i)? {
+        match argument(rt, i, ROOM)? {
             Some(bytes) => all.push(bytes)?,
             None => break,
         }
@@ -21,21 +26,26 @@ pub fn arguments<R: Env + AllocGlobal>(rt: &R) -> Result<Vec<Vec<u8>>, AllocErro
     Ok(all)
 }
 
-// The room is doubled until the argument fits.
-fn argument<R: Env + AllocGlobal>(rt: &R, i: usize) -> Result<Option<Vec<u8>>, AllocError> {
-    let mut room = 256usize;
-    for _ in 0..usize::BITS {
-        let mut bytes = vec![in rt.alloc(); 0u8; room]?;
-        match rt.arg(i, &mut bytes) {
-            Ok(n) => {
-                bytes.truncate(n);
-                return Ok(Some(bytes));
-            }
-            Err(FillError::NotPresent) => return Ok(None),
-            Err(FillError::TooLong) => room = room.saturating_add(room),
+// The room is doubled until the argument fits or memory runs out.
+fn argument<R: Env + AllocGlobal>(
+    rt: &R,
+    i: usize,
+    room: usize,
+) -> Result<Option<Vec<u8>>, AllocError>
+    requires { 1 ≤ room }
+{
+    let mut bytes = vec![in rt.alloc(); 0u8; room]?;
+    match rt.arg(i, &mut bytes) {
+        Ok(n) => {
+            bytes.truncate(n);
+            Ok(Some(bytes))
+        }
+        Err(FillError::NotPresent) => Ok(None),
+        Err(FillError::TooLong) => {
+            drop(bytes);
+            argument(rt, i, room.saturating_mul(2))
         }
     }
-    Err(AllocError)
 }
 
 // A number in decimal digits; None where it is no such number or larger than any that is taken.

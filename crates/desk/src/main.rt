@@ -11,12 +11,11 @@ use std::rt::Files;
 use ubf::{Block, Nth};
 use verdict::Judged;
 
-// What a file is loaded into: the flash, the module before it and the noise on its line; what is said goes to rt. Two lifetimes: with one the
-// borrow checker does not cover a load.
+// What a file is loaded into: the flash, the module before it and the noise on its line; what is said goes to rt.
 #[derive(Drop)]
-struct Desk<'a, 'b, P: Print> {
+struct Desk<'a, P: Print> {
     rt: &'a P,
-    flash: &'b mut [u8],
+    flash: [u8; console::FLASH],
     post: Post,
     noise: Noise,
 }
@@ -74,20 +73,20 @@ fn load_blocks(rt: &impl Print, file: &[u8], noise: Noise) {
     }
 }
 
-// A flash begins all FF, as an erased one does.
-fn erased() -> [u8; 262144] {
-    [0xFFu8; 262144]
+// A flash begins all FF, as an erased one does. A call of its own, since beside other code the check pays for each byte.
+fn erased() -> [u8; console::FLASH] {
+    [0xFFu8; console::FLASH]
 }
 
 // Each block by a session of its own, over one flash. A block that is not done is the last one.
 fn load_all(rt: &impl Print, file: &[u8], count: usize, noise: Noise) {
-    let mut flash = erased();
     let mut desk = Desk {
         rt,
-        flash: &mut flash,
+        flash: erased(),
         post: Post::waiting(),
         noise,
     };
+    // No chain: map_while would go on to a fold over this pair, with the same two lines in its closure.
     let mut done = 0;
     let mut is_right = true;
     for n in 0..count {
@@ -100,7 +99,7 @@ fn load_all(rt: &impl Print, file: &[u8], count: usize, noise: Noise) {
     verdict::sum_up(rt, done, count, is_right);
 }
 
-impl<P: Print> Desk<'_, '_, P> {
+impl<P: Print> Desk<'_, P> {
     // Answers whether the flash is right, if the load is done.
     fn load_nth(&mut self, file: &[u8], n: usize) -> Option<bool> {
         match ubf::block_at(file, n) {
@@ -115,31 +114,26 @@ impl<P: Print> Desk<'_, '_, P> {
     // People count from 1.
     fn show_block(&self, n: usize, block: Block) {
         let ordinal = n.wrapping_add(1);
-        let placed = Placed {
-            image: block.kind,
-            extent: block.extent,
-            start: block.start,
-        };
+        let placed = Placed(block);
         let _ = println!(self.rt; "block {ordinal}: {placed}");
     }
 
     // Loads a block, and judges the flash against the image and against a copy from before.
     fn load_block(&mut self, block: Block, bytes: &[u8]) -> Option<bool> {
         let rt = self.rt;
-        let mut before = erased();
-        octets::copy(self.flash, &mut before, 0);
+        let before = self.flash;
         let image = ubf::image(bytes, block);
         let met = meeting::load(
             &mut self.post,
             &mut self.noise,
             block.kind,
             image,
-            self.flash,
+            &mut self.flash,
         );
         let judged = Judged {
             base: kinds::base_of(block.kind) as usize,
             image,
-            flash: self.flash,
+            flash: &self.flash,
             before: &before,
         };
         let is_right = judged.show(rt, &met);

@@ -65,27 +65,25 @@ impl<P: Print> Bench<'_, P> {
             Image::Zeros => self.zeros,
             Image::Front(n) => octets::part(SHORT, 0, n),
         };
-        self.room = room.min(ROOM);
+        self.room = room;
     }
 
     fn opens(&mut self, wish: Wish) {
-        let mut out = [0u8; ROOM];
-        let room = self.room.min(ROOM);
-        let opened = wish.opening(self.image, &mut out[..room]);
+        let mut bytes = [0u8; ROOM];
+        let out = lent(&mut bytes, self.room);
+        let opened = wish.opening(self.image, out);
         self.session = opened.session;
-        show_answer(self.lines, opened.answer, &out[..room]);
+        show_answer(self.lines, opened.answer, out);
     }
 
     // Only what comes when the rate is accepted is shown.
     fn opens_rated(&mut self, wish: Wish) {
-        let mut out = [0u8; ROOM];
-        let room = self.room.min(ROOM);
-        let opened = wish.opening(self.image, &mut out[..room]);
-        let accepted = [rates::rate_number(wish.rate), commands::ACCEPTED];
+        let mut bytes = [0u8; ROOM];
+        let out = lent(&mut bytes, self.room);
+        let opened = wish.opening(self.image, out);
+        let accepted = [u8::from(wish.rate), commands::ACCEPTED];
         let event = arrived(commands::RATE, &accepted);
-        let rated = opened
-            .session
-            .step(event, &accepted, self.image, &mut out[..room]);
+        let rated = opened.session.step(event, &accepted, self.image, out);
         self.session = rated.session;
     }
 
@@ -103,14 +101,12 @@ impl<P: Print> Bench<'_, P> {
     }
 
     // A step, and what it answers.
-    fn takes(&mut self, event: Event, bytes: &[u8]) {
-        let mut out = [0u8; ROOM];
-        let room = self.room.min(ROOM);
-        let stepped = self
-            .session
-            .step(event, bytes, self.image, &mut out[..room]);
+    fn takes(&mut self, event: Event, heard: &[u8]) {
+        let mut bytes = [0u8; ROOM];
+        let out = lent(&mut bytes, self.room);
+        let stepped = self.session.step(event, heard, self.image, out);
         self.session = stepped.session;
-        show_answer(self.lines, stepped.answer, &out[..room]);
+        show_answer(self.lines, stepped.answer, out);
     }
 }
 
@@ -120,6 +116,11 @@ impl Wish {
             self.kind, image, self.rate, self.piece, self.start, self.same, out,
         )
     }
+}
+
+// So much of the output as is lent.
+fn lent(bytes: &mut [u8; ROOM], room: usize) -> &mut [u8] {
+    &mut bytes[..room.min(ROOM)]
 }
 
 // The event of a frame with this payload.

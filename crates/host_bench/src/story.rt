@@ -1,7 +1,7 @@
 // The cases. Most load two pieces of 8 bytes, or one of 16.
 use stages::{Rate, Same, Start};
 
-// What an opening asks for.
+// What an opening asks for. The kind stays a number, as the call takes it: a case opens with type 4, which no kind has.
 #[derive(Clone, Copy)]
 pub(crate) struct Wish {
     pub(crate) kind: u16,

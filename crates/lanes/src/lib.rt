@@ -9,7 +9,8 @@ ghost use Rattle.lanes.specs.Lanes.{way, lane_with, cleared_of, counted_of, lost
 
 pub use noise::Noise;
 
-// The bytes under way stand in a lent buffer from at to end.
+// The bytes under way stand in a lent buffer from at to end, and in no queue: the contracts of `empty`, `lay` and `take` name both, as
+// lane_with, clean_of and taken_of, and `lay` can't fail, so it takes no memory.
 #[derive(Clone, Copy, Debug, Default, PartialEq, Eq)]
 pub struct Lane {
     pub at: usize,
@@ -28,6 +29,7 @@ pub struct Line<'a> {
 }
 
 impl Lane {
+    // The same as `default`; it has the contract that docs/PROMISES.md lists.
     pub fn empty() -> Lane
         ensures { result ≡ lane_with 0 0 0 0 0 0 }
     {
@@ -80,7 +82,7 @@ impl Line<'_> {
             return None;
         }
         self.lane.at = at + 1;
-        // By index: with octets::byte_at the clause same_bytes did not close.
+        // By index. Tried with octets::byte_at, and with get and unwrap_or: the clause same_bytes did not close.
         Some(if at < self.bytes.len() {
             self.bytes[at]
         } else {
@@ -101,6 +103,7 @@ impl Line<'_> {
         }
         let chance = noise.drawn();
         let random = (chance / 4096 % 256) as u8;
+        // A draw is a number: its three outcomes have no names but those of the calls.
         match chance / 1048576 % 3 {
             0 => self.hit(byte, random),
             1 => self.lane.lose(),

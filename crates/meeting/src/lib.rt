@@ -5,8 +5,15 @@
 use host::{Answer, Session, Stepped};
 use kinds::Kind;
 use lanes::{Lane, Line, Noise};
+use module_model::SMALLEST_REPLY;
 use posts::{Caller, CallerStep, Ending, Post, PostStep, View, view_of};
 use stages::{Rate, Same, Start};
+
+// What may be under way on a lane, and the room that a message of the host has. Both are lent, and no Vec: `load` can't fail, so it takes
+// no memory.
+const LANE: usize = 8192;
+
+const MESSAGE: usize = 2080;
 
 // What a load leaves. Out goes to the board, back to the host. Packets counts those that the host knows to be accepted; forged counts those
 // that the board has written with other bytes than the image's, since noise can pass every check of a frame.
@@ -39,11 +46,11 @@ struct Meeting<'a> {
 
 // Loads one image. The post and the noise go on from where they are.
 pub fn load(post: &mut Post, noise: &mut Noise, kind: Kind, image: &[u8], flash: &mut [u8]) -> Met {
-    let mut out_room = [0u8; 8192];
-    let mut back_room = [0u8; 8192];
-    let mut message = [0u8; 2080];
+    let mut out_room = [0u8; LANE];
+    let mut back_room = [0u8; LANE];
+    let mut message = [0u8; MESSAGE];
     let opened = opening(kind, image, &mut message);
-    // Made first, since the borrow checker does not cover two lines inside the meeting's own expression.
+    // Made first. Tried inside the meeting's own expression: the borrow checker did not cover two lines there.
     let out = Line {
         lane: Lane::empty(),
         bytes: &mut out_room,
@@ -88,7 +95,8 @@ fn opening(kind: Kind, image: &[u8], message: &mut [u8]) -> Stepped {
 }
 
 impl Meeting<'_> {
-    // Turns until the load has ended. A proved loop has to end, and a load does too, but that is not said here: so they are counted.
+    // Turns until the load has ended. They are counted: a `while` needs a measure, the line has no end that a proof knows, and a loop that
+    // may wait is not allowed here.
     fn run(&mut self) {
         for _ in 0..u64::MAX {
             if self.ending != Ending::UnderWay {
@@ -110,14 +118,15 @@ impl Meeting<'_> {
         }
     }
 
+    // This and what follows, as the board's two, differ in the call alone: a closure over the call would be no plainer.
     fn host_hears(&mut self, byte: u8) {
-        let mut message = [0u8; 2080];
+        let mut message = [0u8; MESSAGE];
         let step = self.caller.hear(byte, self.image, &mut message);
         self.host_goes(step, &message);
     }
 
     fn host_waits(&mut self) {
-        let mut message = [0u8; 2080];
+        let mut message = [0u8; MESSAGE];
         let step = self.caller.wait(100, self.image, &mut message);
         self.host_goes(step, &message);
     }
@@ -137,7 +146,7 @@ impl Meeting<'_> {
     }
 
     fn board_hears(&mut self, byte: u8) {
-        let mut reply = [0u8; 64];
+        let mut reply = [0u8; SMALLEST_REPLY];
         let before = view_of(self.post);
         let step = self.post.hear(byte, self.flash, &mut reply);
         self.board_goes(step, &reply);
@@ -157,7 +166,7 @@ impl Meeting<'_> {
     }
 
     fn board_waits(&mut self) {
-        let mut reply = [0u8; 64];
+        let mut reply = [0u8; SMALLEST_REPLY];
         let step = self.post.wait(100, self.flash, &mut reply);
         self.board_goes(step, &reply);
     }

@@ -147,10 +147,7 @@ fn numbers_of(wish: Wish<'_>) -> Option<Numbers> {
 
 // The address of a type; a type that is not known has none, and the writer refuses it.
 fn address_of(number: u16) -> u32 {
-    match kinds::kind_of(number) {
-        Some(kind) => kinds::base_of(kind),
-        None => 0,
-    }
+    kinds::kind_of(number).map_or(0, kinds::base_of)
 }
 
 fn keep(
@@ -177,11 +174,7 @@ fn show(rt: &impl Print, found: Result<Block, Refusal>) -> io::Result<()> {
     match found {
         Err(refusal) => rt.println(Refused(refusal)),
         Ok(block) => {
-            let placed = Placed {
-                image: block.kind,
-                extent: block.extent,
-                start: block.start,
-            };
+            let placed = Placed(block);
             let check = block.check;
             println!(rt; "{placed}, check 0x{check:08X}")
         }

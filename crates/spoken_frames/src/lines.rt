@@ -54,7 +54,8 @@ impl<P: Print> Lines<'_, P> {
         let _ = println!(self.rt; "{ms} ms pass");
     }
 
-    // A line a frame. Bytes behind the last one that are no line of text would show.
+    // A line a frame. Bytes behind the last one that are no line of text would show. A loop over places, and no split of the bytes: where a
+    // frame ends only the reader knows, and the payload is in its store then.
     pub fn message(self, mark: Mark, bytes: &[u8]) {
         let mut reader = Reader::new();
         let mut from = 0;

@@ -1,4 +1,5 @@
 // Frames in words.
+use host_model::Rate;
 use std::fmt;
 
 // A frame that the host sends.
@@ -73,7 +74,7 @@ impl fmt::Display for Answered<'_> {
     }
 }
 
-// ACK 01 and 02 have a meaning of their own in each command.
+// ACK 01 and 02 have a meaning of their own in each command. It stays the byte of the wire, and no enum: any byte may come, and is shown.
 #[derive(Clone, Copy)]
 struct Acknowledgement {
     ack: u8,
@@ -108,7 +109,7 @@ impl fmt::Display for Acknowledgement {
     }
 }
 
-// How the module says that the load went.
+// How the module says that the load went. It stays the byte of the wire, as an ACK does.
 #[derive(Clone, Copy)]
 struct State(u8);
 
@@ -133,14 +134,9 @@ struct RateNumber(u8);
 impl fmt::Display for RateNumber {
     fn fmt<W: fmt::Write>(&self, f: &mut fmt::Formatter<W>) -> fmt::Result {
         let number = self.0;
-        let words = match number {
-            1 => "9600",
-            2 => "19200",
-            3 => "38400",
-            4 => "57600",
-            5 => "115200",
-            _ => "not listed",
-        };
-        write!(f, "{number} ({words})")
+        match Rate::try_from(number) {
+            Ok(rate) => write!(f, "{number} ({rate})"),
+            Err(_) => write!(f, "{number} (not listed)"),
+        }
     }
 }

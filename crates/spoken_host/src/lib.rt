@@ -2,9 +2,8 @@
 // they print is tested.
 #![tactic(auto)]
 
-use console::Refused;
+use console::{Passed, Refused};
 use host::{Answer, Phase, Session, Wait};
-use refusals::Refusal;
 use spoken_frames::{Lines, Mark};
 use stages::{Rate, Stage};
 use std::fmt;
@@ -25,21 +24,9 @@ pub fn show_answer<P: Print>(lines: Lines<P>, answer: Answer, out: &[u8]) {
             count,
         } => {
             lines.message(Mark::Sent, octets::part(out, 0, count));
-            lines.front(Mark::Sent);
-            let _ = lines.rt.print(Refused(refusal));
-            show_passed(lines.rt, refusal, passed);
+            lines.words_only(Mark::Sent, &Passed { refusal, passed });
         }
     }
-}
-
-// The module's byte beside 21 is an ACK, beside 22 a State.
-fn show_passed(rt: &impl Print, refusal: Refusal, passed: u8) {
-    let what = if refusal == Refusal::ModuleRefused {
-        "ACK"
-    } else {
-        "State"
-    };
-    let _ = println!(rt; ", {what} {passed:02X} passed on");
 }
 
 // What a session waits for, how far it is, and the rate that the line should have.
