@@ -1,21 +1,24 @@
 -- The laws of callers as bytes.
 use Rattle.kept_host.specs.declared.opening.Begun.{Begun}
-use Rattle.std.specs.Prelude.{ℕ, ◌≤◌, List, [], ◌≡◌, length}
-use Rattle.std.proofs.Common.{sym, ap, ◌∙◌, le-ltb}
-use Rattle.octets.proofs.Choice.{cond_no}
+use Rattle.std.specs.Prelude.{ℕ, ◌≤◌, cond, ltb, List, [], ◌≡◌, length}
+use Rattle.std.proofs.Common.{ap, ◌∙◌}
+use Rattle.flat.proofs.Room.{with_room}
 use Rattle.host.specs.Step.{left}
 use Rattle.posts.specs.Caller.{CallerLeft, caller_left, caller_of}
 use Rattle.posts.specs.declared.caller.Caller.{Caller}
 use Rattle.posts.specs.declared.caller.CallerStep.{CallerStep}
 use Rattle.kept_host.specs.Kept.{Kept, kept, opened, opening_by, BegunLeft}
-use Rattle.kept_caller.specs.Kept.{caller_bytes, caller_kept, kept_as, kept_opening, opened_with}
+use Rattle.kept_caller.specs.Kept.{caller_bytes, caller_kept, caller_in, kept_as, kept_opening, opened_with}
 
--- What a call leaves, put together: the step, and what it leaves beside its output.
-pub call_by : (st output after : List ℕ) (answer count passed : ℕ) (step : CallerStep) (l : CallerLeft)
-    → kept answer count passed after [] ≡ kept_as (caller_left step []) st → caller_left step output ≡ l
-    → kept answer count passed after output ≡ kept_as l st
-call_by st output after answer count passed step l e left =
-    ap (λ (k : Kept). kept k.answer k.count k.passed k.state output) e ∙ ap (λ (x : CallerLeft). kept_as x st) left
+-- A call over bytes with room: the caller read, its step, and what it leaves, put together.
+pub call_by : (st output : List ℕ) (short : Kept) (move : Caller → CallerLeft) {after : List ℕ} {answer count passed : ℕ} {c : Caller} {step : CallerStep}
+    → caller_bytes ≤ length st → c ≡ caller_in st → caller_left step output ≡ move c
+    → kept answer count passed after [] ≡ kept_as (caller_left step []) st
+    → kept answer count passed after output ≡ cond (ltb (length st) caller_bytes) short (kept_as (move (caller_in st)) st)
+call_by st output short move room read left e =
+    ap (λ (k : Kept). kept k.answer k.count k.passed k.state output) e
+    ∙ ap (λ (x : CallerLeft). kept_as x st) (left ∙ ap move read)
+    ∙ with_room short room
 
 -- An opening.
 pub opening_by_law : (st image output out after : List ℕ) (number first wish start same : ℕ) (begun : Begun) (caller : Caller)
@@ -24,4 +27,4 @@ pub opening_by_law : (st image output out after : List ℕ) (number first wish s
     → opened begun.told.number begun.told.count after out ≡ kept_opening st number first wish start same image output
 unfolding kept_opening
 opening_by_law st image output out after number first wish start same begun caller room e c k =
-    rw (k, c) (ap (λ (b : BegunLeft). opened_with b st) e ∙ sym (cond_no _ _ _ (le-ltb (length st) caller_bytes room)))
+    rw (k, c) (ap (λ (b : BegunLeft). opened_with b st) e ∙ with_room _ room)

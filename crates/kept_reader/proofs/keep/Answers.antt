@@ -1,13 +1,12 @@
 -- `keep`: the words, then the store behind them.
 use mathlib.Core.Path.{◌≡◌, refl, sym, ap, ◌∙◌}
-use borrow.Author.Tests.{lt-ltb}
 use mir.Val.{bool_byte}
 use Prim.Native.Nat.{ℕ}
 use mathlib.Core.Bool.{Bool, true, false}
 use lib.ListN.{length}
 use Rattle.wire.specs.Frame.{longest_content}
 use Rattle.octets.specs.Octets.{laid}
-use Rattle.octets.proofs.Choice.{cond_yes}
+use Rattle.flat.proofs.Room.{without_room}
 use Rattle.kept_reader.specs.Kept.{store_place, flag, bytes_of, reader_kept}
 use Rattle.kept_reader.proofs.KeptLaws.{words_and_store, kept_over}
 use Rattle.std.proofs.Common.{arith}
@@ -20,7 +19,7 @@ flagged false n e = e
 
 pub returns-then-state-lt-READER_BYTES : goal.returns-then-state-lt-READER_BYTES
 unfolding reader_kept
-returns-then-state-lt-READER_BYTES c = sym (cond_yes _ _ _ (lt-ltb _ _ c.if-state-lt-READER_BYTES.true))
+returns-then-state-lt-READER_BYTES c = without_room _ c.if-state-lt-READER_BYTES.true
 
 pub returns : goal.returns
 unfolding bytes_of

@@ -1,14 +1,12 @@
 -- `step`: the reader's own step between reading it and writing it back.
-use borrow.Author.Tests.{lt-ltb, le-ltb}
-use mathlib.Core.Path.{sym}
-use Rattle.octets.proofs.Choice.{cond_yes, cond_no}
+use Rattle.flat.proofs.Room.{without_room, with_room}
 use Rattle.kept_reader.specs.Kept.{kept_step}
 use Rattle.kept_reader.proofs.KeptLaws.{kept_over}
 use Rattle.kept_reader.proofs.step.Goals as goal
 
 pub returns-then-state-lt-READER_BYTES : goal.returns-then-state-lt-READER_BYTES
 unfolding kept_step
-returns-then-state-lt-READER_BYTES c = rw c.number.ensures (sym (cond_yes _ _ _ (lt-ltb _ _ c.if-state-lt-READER_BYTES.true)))
+returns-then-state-lt-READER_BYTES c = rw c.number.ensures (without_room _ c.if-state-lt-READER_BYTES.true)
 
 pub returns : goal.returns
 unfolding kept_step
@@ -22,4 +20,4 @@ returns c =
       c.step-stepped.ensures,
       c.reader_in.ensures,
     )
-    (sym (cond_no _ _ _ (le-ltb _ _ c.if-state-lt-READER_BYTES.false)))
+    (with_room _ c.if-state-lt-READER_BYTES.false)
