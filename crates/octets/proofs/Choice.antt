@@ -1,6 +1,7 @@
 -- Choices by a test, which every layer's definitions are made of.
-use Rattle.std.specs.Prelude.{Bool, true, false, cond, ◌&&◌, ◌||◌, ◌≡◌, refl}
-use Rattle.std.proofs.lemmas.Bool.{false≢true}
+use Rattle.std.specs.Prelude.{Bool, true, false, cond, not, ◌&&◌, ◌||◌, ◌≡◌, refl}
+use Rattle.std.proofs.lemmas.Bool.{false≢true, not-true, not-false}
+use Rattle.std.proofs.Common.{sym, ◌∙◌}
 
 -- A test that holds takes the first case, one that fails the second.
 pub cond_yes : {A : Type 0} (t : Bool) (x y : A) → t ≡ true → cond t x y ≡ x
@@ -29,3 +30,10 @@ both false b h = absurd (false≢true h)
 pub one_holds : {P : Type 0} (a b : Bool) → (a ≡ true → P) → (b ≡ true → P) → (a || b) ≡ true → P
 one_holds true b h k e = h refl
 one_holds false b h k e = k e
+
+-- What a call answered, turned round by a test of its negation: the definition that it equals.
+pub test_passed : {x t : Bool} → x ≡ t → not x ≡ false → t ≡ true
+test_passed {x} e h = sym e ∙ not-false x h
+
+pub test_failed : {x t : Bool} → x ≡ t → not x ≡ true → t ≡ false
+test_failed {x} e h = sym e ∙ not-true x h
