@@ -73,16 +73,11 @@ fn load_blocks(rt: &impl Print, file: &[u8], noise: Noise) {
     }
 }
 
-// A flash begins all FF, as an erased one does. A call of its own, since beside other code the check pays for each byte.
-fn erased() -> [u8; console::FLASH] {
-    [0xFFu8; console::FLASH]
-}
-
-// Each block by a session of its own, over one flash. A block that is not done is the last one.
+// Each block by a session of its own, over one flash, which begins all FF, as an erased one does. A block that is not done is the last one.
 fn load_all(rt: &impl Print, file: &[u8], count: usize, noise: Noise) {
     let mut desk = Desk {
         rt,
-        flash: erased(),
+        flash: [0xFF; console::FLASH],
         post: Post::waiting(),
         noise,
     };
