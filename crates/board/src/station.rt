@@ -12,7 +12,7 @@ use std::io::{Read, Seek, Write};
 const READ: usize = 256;
 
 // What has been done.
-#[derive(Clone, Copy)]
+#[derive(Clone, Copy, Default)]
 pub struct Log {
     pub replies: usize,
     pub refused: usize,
@@ -67,11 +67,7 @@ impl<'a, R: Input + Print, E: Print, F: Read + Write + Seek> Station<'a, R, E, F
             file,
             flash,
             post,
-            log: Log {
-                replies: 0,
-                refused: 0,
-                packets: 0,
-            },
+            log: Log::default(),
         }
     }
 
