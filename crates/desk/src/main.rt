@@ -81,16 +81,11 @@ fn load_all(rt: &impl Print, file: &[u8], count: usize, noise: Noise) {
         post: Post::waiting(),
         noise,
     };
-    // No chain: map_while would go on to a fold over this pair, with the same two lines in its closure.
-    let mut done = 0;
-    let mut is_right = true;
-    for n in 0..count {
-        let Some(holds) = desk.load_nth(file, n) else {
-            break;
-        };
-        done = n + 1;
-        is_right = is_right && holds;
-    }
+    let (done, is_right) = (0..count)
+        .map_while(|n| desk.load_nth(file, n))
+        .fold((0usize, true), |(done, is_right), holds| {
+            (done.wrapping_add(1), is_right && holds)
+        });
     verdict::sum_up(rt, done, count, is_right);
 }
 
