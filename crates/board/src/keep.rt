@@ -32,7 +32,8 @@ pub fn keep_packet<F: Write + Seek>(
     Ok(count)
 }
 
-// A packet is small, so one call takes it whole or has failed.
+// A packet is small, so one call takes it whole or has failed. No write_all, which goes on after a short write: the board stops and says
+// so.
 fn write_at<F: Write + Seek>(file: &mut F, bytes: &[u8], at: u64) -> Result<(), Unkept> {
     file.seek(SeekFrom::Start(at))?;
     if file.write(bytes)? < bytes.len() {

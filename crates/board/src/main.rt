@@ -48,9 +48,14 @@ fn wish_of(words: &[Vec<u8>]) -> Option<Wish<'_>> {
 }
 
 fn serve<R: Files + Input + Print + AllocGlobal>(rt: &R, err: &impl Print, wish: Wish<'_>) {
-    match cable::open(rt, wish.line) {
-        Ok(cable) => serve_file(rt, err, wish, cable),
-        Err(why) => console::fail(err, wish.line, &why),
+    let cable = match cable::open(rt, wish.line) {
+        Ok(cable) => cable,
+        Err(why) => return console::fail(err, wish.line, &why),
+    };
+    match serve_file(rt, err, wish, cable) {
+        Ok(()) => (),
+        Err(FileError::Larger) => say::too_large(err),
+        Err(why) => console::fail(err, wish.flash, &why),
     }
 }
 
@@ -60,17 +65,13 @@ fn serve_file<R: Files + Input + Print + AllocGlobal>(
     err: &impl Print,
     wish: Wish<'_>,
     cable: Cable<R::File>,
-) {
-    match console::read_file(rt, wish.flash, console::FLASH) {
-        Ok(flash) if flash.is_empty() => say::empty(err),
-        Ok(flash) => match console::open_update(rt, wish.flash) {
-            Ok(file) => {
-                let mut station = Station::new(rt, err, cable, file, flash, wish.opened);
-                station.serve();
-            }
-            Err(why) => console::fail(err, wish.flash, &why),
-        },
-        Err(FileError::Larger) => say::too_large(err),
-        Err(why) => console::fail(err, wish.flash, &why),
+) -> Result<(), FileError> {
+    let flash = console::read_file(rt, wish.flash, console::FLASH)?;
+    if flash.is_empty() {
+        say::empty(err);
+        return Ok(());
     }
+    let file = console::open_update(rt, wish.flash)?;
+    Station::new(rt, err, cable, file, flash, wish.opened).serve();
+    Ok(())
 }

@@ -14,17 +14,12 @@ pub fn read_back(bytes: &[u8]) -> Option<Refusing> {
     for &byte in bytes {
         let stepped = reader.step(byte);
         reader = stepped.reader;
-        if let Heard::Frame { command, count } = stepped.heard {
-            let store = reader.store;
-            let ack = last(reader::payload(&store, count));
-            if ack != 0 {
-                return Some(Refusing { command, ack });
-            }
+        if let Heard::Frame { command, count } = stepped.heard
+            && let Some(&ack) = reader::payload(&reader.store, count).last()
+            && ack != 0
+        {
+            return Some(Refusing { command, ack });
         }
     }
     None
-}
-
-fn last(payload: &[u8]) -> u8 {
-    payload.last().copied().unwrap_or(0)
 }

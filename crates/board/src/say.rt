@@ -72,8 +72,7 @@ pub fn refusal(err: &impl Print, refusal: Refusal) {
 }
 
 pub fn refusing(err: &impl Print, said: Refusing) {
-    let command = said.command;
-    let ack = said.ack;
+    let Refusing { command, ack } = said;
     let _ = println!(err; "board: command {command:02X} refused with ACK {ack:02X}");
 }
 
@@ -95,9 +94,11 @@ fn unwritten(err: &impl Print) {
 }
 
 pub fn summary(err: &impl Print, log: Log, dropped: usize) {
-    let packets = log.packets;
-    let replies = log.replies;
-    let refused = log.refused;
+    let Log {
+        replies,
+        refused,
+        packets,
+    } = log;
     let _ = println!(err;
         "board: the line has ended: {packets} packets written, {replies} replies, {refused} of them refusals, {dropped} frames dropped"
     );

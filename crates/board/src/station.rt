@@ -3,12 +3,16 @@ use crate::keep::{Unkept, keep_packet};
 use crate::{reply, say};
 use cable::{Cable, Came};
 use module::Answer;
+use module_model::SMALLEST_REPLY;
 use posts::{Post, PostStep};
 use std::io;
 use std::io::{Read, Seek, Write};
 
+// How many bytes are read at a time. They, and a reply, go into rooms of a known size, and into no Vec, which could fail.
+const READ: usize = 256;
+
 // What has been done.
-#[derive(Clone, Copy)]
+#[derive(Clone, Copy, Default)]
 pub struct Log {
     pub replies: usize,
     pub refused: usize,
@@ -37,7 +41,6 @@ pub struct Station<'a, R, E, F> {
     cable: Cable<F>,
     file: F,
     flash: Vec<u8>,
-    opened: bool,
     post: Post,
     log: Log,
 }
@@ -63,25 +66,21 @@ impl<'a, R: Input + Print, E: Print, F: Read + Write + Seek> Station<'a, R, E, F
             cable,
             file,
             flash,
-            opened,
             post,
-            log: Log {
-                replies: 0,
-                refused: 0,
-                packets: 0,
-            },
+            log: Log::default(),
         }
     }
 
     pub fn serve(&mut self) {
-        say::beginning(self.err, self.opened, self.flash.len());
+        say::beginning(self.err, self.post.is_open(), self.flash.len());
         if let Err(why) = self.work() {
             say::stop(self.err, &why);
         }
         say::summary(self.err, self.log, self.post.dropped);
     }
 
-    // A proved loop has to end, and nothing says that a line does: no run uses up so many turns.
+    // Turns are counted, and no run uses them up: a `while` needs a measure, the line has no end that a proof knows, and a loop that may
+    // wait is not allowed here.
     fn work(&mut self) -> Result<(), Stop> {
         for _ in 0..u64::MAX {
             self.turn()?;
@@ -91,7 +90,7 @@ impl<'a, R: Input + Print, E: Print, F: Read + Write + Seek> Station<'a, R, E, F
 
     // Reads once.
     fn turn(&mut self) -> Result<(), Stop> {
-        let mut buffer = [0u8; 256];
+        let mut buffer = [0u8; READ];
         let came = cable::listen(self.rt, &mut self.cable, &mut buffer);
         match came.map_err(Stop::Line)? {
             Came::Bytes(n) => self.hear_all(octets::part(&buffer, 0, n)),
@@ -108,14 +107,14 @@ impl<'a, R: Input + Print, E: Print, F: Read + Write + Seek> Station<'a, R, E, F
     }
 
     fn hear(&mut self, byte: u8) -> Result<(), Stop> {
-        let mut reply = [0u8; 64];
+        let mut reply = [0u8; SMALLEST_REPLY];
         let post = self.post;
         let step = post.hear(byte, &mut self.flash, &mut reply);
         self.go(step, &reply)
     }
 
     fn wait(&mut self) -> Result<(), Stop> {
-        let mut reply = [0u8; 64];
+        let mut reply = [0u8; SMALLEST_REPLY];
         let post = self.post;
         let step = post.wait(cable::SILENCE, &mut self.flash, &mut reply);
         self.go(step, &reply)

@@ -73,29 +73,19 @@ fn load_blocks(rt: &impl Print, file: &[u8], noise: Noise) {
     }
 }
 
-// A flash begins all FF, as an erased one does. A call of its own, since beside other code the check pays for each byte.
-fn erased() -> [u8; console::FLASH] {
-    [0xFFu8; console::FLASH]
-}
-
-// Each block by a session of its own, over one flash. A block that is not done is the last one.
+// Each block by a session of its own, over one flash, which begins all FF, as an erased one does. A block that is not done is the last one.
 fn load_all(rt: &impl Print, file: &[u8], count: usize, noise: Noise) {
     let mut desk = Desk {
         rt,
-        flash: erased(),
+        flash: [0xFF; console::FLASH],
         post: Post::waiting(),
         noise,
     };
-    // No chain: map_while would go on to a fold over this pair, with the same two lines in its closure.
-    let mut done = 0;
-    let mut is_right = true;
-    for n in 0..count {
-        let Some(holds) = desk.load_nth(file, n) else {
-            break;
-        };
-        done = n + 1;
-        is_right = is_right && holds;
-    }
+    let (done, is_right) = (0..count)
+        .map_while(|n| desk.load_nth(file, n))
+        .fold((0usize, true), |(done, is_right), holds| {
+            (done.wrapping_add(1), is_right && holds)
+        });
     verdict::sum_up(rt, done, count, is_right);
 }
 

@@ -7,13 +7,9 @@ mod story;
 // The most bytes that can be cut into pieces of 4: document 01's example has so many zeros.
 pub(crate) const ZEROS: usize = 262140;
 
-fn zeros() -> [u8; ZEROS] {
-    [0u8; ZEROS]
-}
-
 fn main(rt: HostRuntime) {
     let _ = println!(rt;
         "host_bench\n> sent on the wire   < heard on the wire, or time   = session"
     );
-    play::play(&rt, &zeros());
+    play::play(&rt, &[0u8; ZEROS]);
 }

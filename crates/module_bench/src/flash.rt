@@ -1,5 +1,4 @@
 // The flash around the range of the transfer, and whether all of it holds what it should.
-use crate::FLASH;
 use console::Row;
 
 // Type 1 begins here.
@@ -9,11 +8,6 @@ const BASE: usize = 0x8000;
 const IMAGE: [u8; 14] = [
     0x11, 0x12, 0x13, 0x14, 0x21, 0x22, 0x23, 0x24, 0xDB, 0xDC, 0xDE, 0x34, 0x41, 0x42,
 ];
-
-// An erased flash.
-pub(crate) fn erased() -> [u8; FLASH] {
-    [0xFFu8; FLASH]
-}
 
 // Prints the bytes from 0x7FFC to 0x8017, and judges the whole flash: so many bytes of the image stand in it, and nothing else.
 pub(crate) fn show_flash(rt: &impl Print, count: usize, flash: &[u8]) {

@@ -12,6 +12,7 @@ fn main(rt: HostRuntime) {
     let _ = println!(rt;
         "module_bench\n> command and payload of a frame, or time   < reply on the wire   = session"
     );
-    let mut flash = flash::erased();
+    // As an erased one.
+    let mut flash = [0xFFu8; FLASH];
     play::play(&rt, &mut flash);
 }

@@ -3,6 +3,7 @@ use crate::flash::show_flash;
 use crate::story::{Lent, STORY, Step};
 use console::Row;
 use module::{Event, Session, Stepped};
+use module_model::SMALLEST_REPLY;
 use spoken_frames::{Lines, Mark};
 use spoken_module::{PLACES, show_answer, show_opening, show_session};
 
@@ -25,6 +26,7 @@ pub(crate) fn play(rt: &impl Print, flash: &mut [u8]) {
     }
 }
 
+// Replies go into rooms of a known size, and into no Vec, which could fail.
 impl<P: Print> Bench<'_, P> {
     fn step(&mut self, step: Step) {
         match step {
@@ -67,10 +69,15 @@ impl<P: Print> Bench<'_, P> {
             count: payload.len(),
         };
         let session = self.session;
-        let mut reply = [0u8; 64];
+        let mut reply = [0u8; SMALLEST_REPLY];
         let stepped = match lent {
             Lent::All => session.step(event, payload, self.flash, &mut reply),
-            Lent::ShortReply => session.step(event, payload, self.flash, &mut reply[..63]),
+            Lent::ShortReply => session.step(
+                event,
+                payload,
+                self.flash,
+                &mut reply[..SMALLEST_REPLY - 1],
+            ),
             Lent::SmallFlash => session.step(event, payload, &mut [0xFF; 100], &mut reply),
             Lent::NoFlash => session.step(event, payload, &mut [], &mut reply),
         };
@@ -80,7 +87,7 @@ impl<P: Print> Bench<'_, P> {
     // Milliseconds pass.
     fn waits(&mut self, ms: u32) {
         self.lines.passed(Mark::Sent, ms);
-        let mut reply = [0u8; 64];
+        let mut reply = [0u8; SMALLEST_REPLY];
         let stepped = self
             .session
             .step(Event::Elapsed(ms), b"", self.flash, &mut reply);

@@ -62,10 +62,11 @@ impl fmt::Display for HowFar {
         match self.0 {
             Phase::Closed => f.write_str("closed"),
             Phase::Ready => f.write_str("open: ready, no transfer"),
-            Phase::Begun(transfer) => {
-                let extent = transfer.extent;
-                write!(f, "open: wants packet 1 of {extent} bytes")
-            }
+            Phase::Begun(transfer) => write!(
+                f,
+                "open: wants packet 1 of {} bytes",
+                transfer.extent
+            ),
             Phase::Loading {
                 number,
                 written,
