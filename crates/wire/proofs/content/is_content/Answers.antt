@@ -4,10 +4,8 @@ use mathlib.Core.Bool.{Bool}
 use mathlib.Core.List.{List}
 use mathlib.Core.Path.{◌≡◌, sym, ◌∙◌}
 use lib.Dec.{eqb}
-use native.Mathlib.Omega.{arith}
 use borrow.Author.Tests.{le-leb, lt-leb, eq-eqb, ne_eqb}
 use lib.ListN.{length, get_or, take}
-use lib.Seq.{length-take-le}
 use Rattle.octets.specs.Octets.{number_at, xor_of}
 use Rattle.wire.specs.Frame.{device, shortest_content, longest_content, is_content}
 use Rattle.wire.proofs.content.is_content.Goals as goal
@@ -54,9 +52,6 @@ returns-then-byte_at-ne-DEVICE c =
       eq-eqb (number_at 2 s 0) (length s - 2) (sym c.two_at.ensures ∙ c.if-two_at-n.false),
       ne_eqb (get_or s 2 0) 1 (λ e. c.if-byte_at-ne-DEVICE.true (c.byte_at.ensures ∙ e)),
     )
-
-pub slice_bounds-xor-length : goal.slice_bounds-xor-length
-slice_bounds-xor-length c = sym (length-take-le _ _ (omega arith))
 
 pub returns : goal.returns
 returns c =

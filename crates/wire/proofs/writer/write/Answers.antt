@@ -1,8 +1,7 @@
 -- `wire::write`: the tests come before the first store, so a refusal leaves the output as lent.
 use mathlib.Core.Path.{◌≡◌, sym, ap, ◌∙◌}
 use native.Mathlib.Omega.{arith}
-use lib.ListN.{length, length-take}
-use lib.Seq.{length-take-le}
+use lib.ListN.{length}
 use Rattle.octets.specs.Octets.{over}
 use Rattle.wire.specs.Frame.{Frame, frame, wire_form, wire_of}
 use Rattle.wire.specs.WriteLaws.{write_too_long, write_no_room, write_done}
@@ -10,12 +9,6 @@ use Rattle.wire.proofs.writer.write.Goals as goal
 
 pub returns-then-n-gt-PAYLOAD_MOST : goal.returns-then-n-gt-PAYLOAD_MOST
 returns-then-n-gt-PAYLOAD_MOST c = sym (write_too_long _ _ c.if-n-gt-PAYLOAD_MOST.true)
-
-pub slice_bounds-size_of-end : goal.slice_bounds-size_of-end
-slice_bounds-size_of-end c = sym (length-take-le _ _ (omega (arith, c.content_of-content.ensures.0)))
-
-pub size_of-size-requires : goal.size_of-size-requires
-size_of-size-requires c = simp length-take (omega (arith, c.content_of-content.ensures.0))
 
 pub returns-then-out-size : goal.returns-then-out-size
 unfolding wire_of
@@ -25,9 +18,6 @@ returns-then-out-size c =
     let size : c.size_of-size.result ≡ length (wire_of f) =
     c.size_of-size.ensures ∙ ap (λ l. length (wire_form l)) c.content_of-content.ensures.1 in
     sym (write_no_room f a.out.now c.if-n-gt-PAYLOAD_MOST.false (omega arith))
-
-pub slice_bounds-lay-end : goal.slice_bounds-lay-end
-slice_bounds-lay-end c = sym (length-take-le _ _ (omega (arith, c.content_of-content.ensures.0)))
 
 pub returns : goal.returns
 unfolding wire_of
