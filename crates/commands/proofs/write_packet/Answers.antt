@@ -4,7 +4,6 @@ use mathlib.Core.List.{List}
 use Prim.Native.Nat.{ℕ, ◌+◌, ◌%◌, ◌≤◌, ◌<◌}
 use native.Mathlib.Omega.{arith}
 use lib.ListN.{length, take, replicate, length-replicate}
-use lib.Seq.{length-take-le}
 use Rattle.octets.specs.Octets.{laid, spelled}
 use Rattle.pieces.specs.Pieces.{piece_of}
 use Rattle.wire.specs.Write.{write_of}
@@ -21,18 +20,6 @@ returns-then-n-gt-LARGEST_PACKET c =
     sym
     (write_too_long (packet_frame a.image.now a.size a.number) a.out.now
     (omega (arith, long, length_packet a.image.now a.size a.number)))
-
-pub slice_bounds-write-end : goal.slice_bounds-write-end
-slice_bounds-write-end c = sym (length-take-le _ _ (
-    omega (
-      arith,
-      c.copy.auto.d,
-      c.put_two-3.auto.d,
-      c.put_two-2.auto.d,
-      c.put_two.auto.d,
-      length-replicate {A = ℕ} longest_payload 0,
-    )
-    ))
 
 pub returns : goal.returns
 returns c =
