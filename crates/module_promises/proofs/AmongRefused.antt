@@ -2,7 +2,7 @@
 use Rattle.std.specs.Prelude.{Bool, true, false, List, [], ◌∷◌, ◌≡◌, refl, ℕ}
 use Rattle.std.proofs.lemmas.Bool.{false≢true}
 use Rattle.std.proofs.Common.{ap, ◌∙◌}
-use Rattle.module_model.specs.Answers.{number_in, is_refused}
+use Rattle.module_model.specs.Answers.{is_refused}
 use Rattle.module_promises.specs.Runs.{Given, Exchange, exchange, next_of, run_of, run_by, carried, carried_by}
 use Rattle.module_promises.specs.Promises.{NobodyElse, taken, offered, CleanAmongRefused}
 use Rattle.module_promises.proofs.Idle.{refused_leaves}

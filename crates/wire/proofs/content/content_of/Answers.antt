@@ -1,19 +1,15 @@
 -- `wire::content_of`: each part at its place over zeros, then the check over what stands before it.
 use Prim.Native.Nat.{ℕ, ◌+◌}
 use mathlib.Core.List.{List}
-use mathlib.Core.Path.{◌≡◌, sym, ap, ◌∙◌}
+use mathlib.Core.Path.{◌≡◌, ap, ◌∙◌}
 use native.Mathlib.Omega.{arith}
 use lib.ListN.{length, set, take, replicate, length-replicate}
-use lib.Seq.{length-take-le}
 use Rattle.octets.specs.Octets.{laid, over, xor_of}
 use Rattle.octets.proofs.OctetsLaws.{length_over, take_over}
 use Rattle.wire.specs.Frame.{Frame, frame, longest_content, unchecked_of, content_of}
 use Rattle.wire.specs.FrameLaws.{length_unchecked, length_content}
 use Rattle.wire.specs.WriteLaws.{unchecked_built, content_built}
 use Rattle.wire.proofs.content.content_of.Goals as goal
-
-pub slice_bounds-xor-end : goal.slice_bounds-xor-end
-slice_bounds-xor-end c = sym (length-take-le _ _ (omega (arith, c.copy.auto.d)))
 
 pub returns : goal.returns
 returns c =
