@@ -3,6 +3,7 @@ use mathlib.Core.Path.{sym, ap, ◌∙◌}
 use borrow.Author.Rules.{rules}
 use Rattle.host.specs.declared.session.Session.{Session}
 use Rattle.kept_host.specs.Kept.{stage_number}
+use Rattle.kept_host.specs.declared.words.Staged.{Staged}
 use Rattle.kept_host.proofs.calls.stage.Goals as goal
 
 pub returns-in-Ended : goal.returns-in-Ended
@@ -10,4 +11,4 @@ returns-in-Ended c = rw (← c.session_in.ensures) (search rules)
 
 pub returns-in-Waiting : goal.returns-in-Waiting
 returns-in-Waiting c =
-    c.number_of.ensures ∙ sym (ap stage_number (ap (λ (s : Session). s.phase) (sym c.session_in.ensures) ∙ c.in-Waiting.is))
+    ap (λ (s : Staged). s.stage) c.stage_words.ensures ∙ sym (ap stage_number (ap (λ (s : Session). s.phase) (sym c.session_in.ensures) ∙ c.in-Waiting.is))

@@ -2,11 +2,10 @@
 use Prim.Native.Nat.{ℕ}
 use mathlib.Core.Path.{◌≡◌, refl, sym, ap, ◌∙◌}
 use Rattle.std.specs.Result.{result_unwrap_or}
-use Rattle.std.specs.Prelude.{Result, Ok, Err, Bool, true, false, eqb}
+use Rattle.std.specs.Prelude.{Result, Ok, Err, true, false, eqb}
 use borrow.Author.Tests.{ne_eqb}
 use Rattle.std.proofs.lemmas.Bool.{true≢false}
 use Rattle.host_model.specs.Rates.{Numbered, is_rate}
-use Rattle.host_model.specs.Stages.{number_of_rate}
 use Rattle.host_model.specs.declared.plan.Rate.{Rate}
 use Rattle.host_model.specs.declared.plan.Rate.TheVariants.{R9600, R19200, R38400, R57600, R115200}
 use Rattle.host_model.specs.declared.rate.UnknownRate.{UnknownRate}
