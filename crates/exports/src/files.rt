@@ -16,7 +16,7 @@ use ubf_model::{
 };
 
 // An answer with every number of a block beside it; 0 where there is none.
-#[derive(Clone, Copy)]
+#[derive(Clone, Copy, Default)]
 pub struct Answered {
     pub answer: u8,
     pub kind: u16,
@@ -63,12 +63,9 @@ fn without_block(answer: u8, place: usize, count: usize) -> Answered
 {
     Answered {
         answer,
-        kind: 0,
-        extent: 0,
-        start: 0,
-        check: 0,
         place,
         count,
+        ..Answered::default()
     }
 }
 
@@ -76,15 +73,9 @@ fn without_block(answer: u8, place: usize, count: usize) -> Answered
 pub extern "C" fn zrn_type_address(kind: u16, address: &mut u32) -> bool
     ensures { record { known = result; address = address.new } ≡ address_flat (kind_of kind) }
 {
-    *address = 0;
-    let known = kinds::kind_of(kind);
-    match known {
-        Some(own) => {
-            *address = kinds::base_of(own);
-            true
-        }
-        None => false,
-    }
+    let base = kinds::kind_of(kind).map(kinds::base_of);
+    *address = base.unwrap_or(0);
+    base.is_some()
 }
 
 #[unsafe(no_mangle)]
@@ -160,6 +151,7 @@ pub extern "C" fn zrn_ubf_image(block: &[u8], start: u32, extent: u32, place: &m
     stretch(block, flat::wide(start), flat::wide(extent), place)
 }
 
+// The four texts have a call each, since C has a name for each.
 #[unsafe(no_mangle)]
 pub extern "C" fn zrn_ubf_model(block: &[u8], place: &mut usize) -> usize
     ensures { record { count = result; place = place.new } ≡ stretch_of model_place (model_in block.now) }
@@ -222,7 +214,7 @@ pub extern "C" fn zrn_ubf_write(
 {
     let numbers = Numbers {
         number: kind,
-        address: address,
+        address,
         start,
     };
     let written = ubf::write(numbers, model, version, name, date, image, out);

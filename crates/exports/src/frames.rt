@@ -65,8 +65,5 @@ pub fn number_of(written: Result<usize, Refusal>) -> u8
 pub fn count_of(written: Result<usize, Refusal>) -> usize
     ensures { result ≡ count_in written }
 {
-    match written {
-        Ok(n) => n,
-        Err(_) => 0,
-    }
+    written.unwrap_or(0)
 }

@@ -1,4 +1,4 @@
-// The answers that are no refusal. A refusal is answered by its own number, 1 to 22.
+// The answers that are no refusal. A refusal is answered by its own number, 1 to 22. No enum: C takes numbers (zrnkobal.h).
 
 pub const NOTHING: u8 = 0;
 

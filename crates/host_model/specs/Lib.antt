@@ -3,6 +3,7 @@
 -- answer (Events); the laws of each stand beside it.
 pub mod Stages
 pub mod Rates
+pub mod Wishes
 pub mod Answers
 pub mod Messages
 pub mod Waits

@@ -8,6 +8,7 @@ mod plan;
 mod rate;
 mod views;
 mod waits;
+mod wishes;
 
 pub use answers::Move;
 pub use events::{Answer, Event};
@@ -16,3 +17,4 @@ pub use plan::{Plan, Rate, Same, Stage, Start};
 pub use rate::UnknownRate;
 pub use views::Progress;
 pub use waits::{Phase, Wait};
+pub use wishes::{UnknownSame, UnknownStart};

@@ -1,5 +1,5 @@
-// The calls: each reads the caller from the bytes, gives it a byte or a time, and puts it back. Every output number is written, each
-// after the room test, and answers are numbers, since C calls them so.
+// The calls: each reads the caller from the bytes, gives it a byte or a time, and puts it back. Every output number is written, as 0
+// by open, hear and wait where the bytes have no room. Answers are numbers and outputs are lent, since C calls them so.
 ghost use Rattle.std.specs.Prelude.{[], ◌≡◌};
 ghost use Rattle.posts.specs.Caller.{caller_left};
 ghost use Rattle.kept_host.specs.Kept.{kept, opened};

@@ -6,8 +6,8 @@ ghost use Rattle.kept_host.specs.Kept.{told_of};
 use host::Answer;
 use stages::{Rate, rate_number};
 
-// The answer's number, the count to send, the byte passed on.
-#[derive(Clone, Copy)]
+// The answer's number, the count to send, the byte passed on. No enum: C's zrn_host_frame gives the number and lends the other two.
+#[derive(Clone, Copy, Default)]
 pub struct Told {
     pub number: u8,
     pub count: usize,
@@ -20,23 +20,20 @@ pub fn told_of(answer: Answer) -> Told
     match answer {
         Answer::Nothing => Told {
             number: flat::NOTHING,
-            count: 0,
-            passed: 0,
+            ..Told::default()
         },
         Answer::Sent(n) => Told {
             number: flat::WRITTEN,
             count: n,
-            passed: 0,
+            ..Told::default()
         },
         Answer::Done => Told {
             number: flat::DONE,
-            count: 0,
-            passed: 0,
+            ..Told::default()
         },
         Answer::Refused(refusal) => Told {
             number: refusal.number(),
-            count: 0,
-            passed: 0,
+            ..Told::default()
         },
         Answer::Failed {
             refusal,
@@ -44,8 +41,8 @@ pub fn told_of(answer: Answer) -> Told
             count,
         } => Told {
             number: refusal.number(),
-            count: count,
-            passed: passed,
+            count,
+            passed,
         },
     }
 }
@@ -54,8 +51,5 @@ pub fn told_of(answer: Answer) -> Told
 pub(crate) fn line_number(rate: Option<Rate>) -> u8
     ensures { result ≡ line_number rate }
 {
-    match rate {
-        None => 0,
-        Some(agreed) => rate_number(agreed),
-    }
+    rate.map_or(0, rate_number)
 }

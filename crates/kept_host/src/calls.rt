@@ -1,14 +1,14 @@
-// The calls with bytes that keep a session. Every output number is written, and answers are numbers, since C calls them so.
+// The calls with bytes that keep a session. Every output number is lent and written, and answers are numbers, since C calls them so.
 ghost use Rattle.std.specs.Prelude.{◌≡◌, [], length};
 ghost use Rattle.host_model.specs.Views.{progress_of, line_number};
 ghost use Rattle.host.specs.Session.{session_progress, session_rate, session_repeats};
-ghost use Rattle.kept_host.specs.Kept.{session_in, stage_words, stage_number, kept, kept_step};
+ghost use Rattle.kept_host.specs.Kept.{session_in, stage_number, kept, kept_step};
 
 use crate::answers::{line_number, told_of};
 use crate::kept::{keep, session_in};
 use crate::record;
+use crate::words::stage_words;
 use host::{Event, Phase};
-use stages::Stage;
 
 // A frame has arrived.
 pub fn frame(
@@ -27,7 +27,7 @@ pub fn frame(
     step(
         state,
         Event::Frame {
-            command: command,
+            command,
             count: payload.len(),
         },
         payload,
@@ -126,20 +126,7 @@ pub fn stage(state: &[u8]) -> u8
     ensures { result ≡ stage_number (session_in state.now).phase }
 {
     match session_in(state).phase {
-        Phase::Ended | Phase::EndedAt { .. } => record::ENDED_STAGE as u8,
-        Phase::Waiting(wait) => number_of(wait.stage),
-    }
-}
-
-fn number_of(stage: Stage) -> u8
-    ensures { result ≡ (stage_words stage).stage }
-{
-    match stage {
-        Stage::Text => record::TEXT_STAGE as u8,
-        Stage::Asking(_) => record::ASKING_STAGE as u8,
-        Stage::Declaring(_) => record::DECLARING_STAGE as u8,
-        Stage::Sending { .. } => record::SENDING_STAGE as u8,
-        Stage::Noticing { .. } => record::NOTICING_STAGE as u8,
-        Stage::Restarting { .. } => record::RESTARTING_STAGE as u8,
+        Phase::Ended | Phase::EndedAt { .. } => record::ENDED_STAGE,
+        Phase::Waiting(wait) => stage_words(wait.stage).stage,
     }
 }

@@ -22,17 +22,14 @@ pub(crate) fn fields_in(state: &[u8]) -> Session
 fn phase_in(known: Option<Kind>, state: &[u8]) -> Phase
     ensures { result ≡ phase_in known state.now }
 {
-    match known {
-        Some(kind) => kind_phase(kind, state),
-        None => Phase::Ended,
-    }
+    known.map_or(Phase::Ended, |kind| kind_phase(kind, state))
 }
 
 // With a known type: ended at a rate, or waiting.
 fn kind_phase(kind: Kind, state: &[u8]) -> Phase
     ensures { result ≡ kind_phase kind state.now }
 {
-    if u32::from(octets::byte_at(state, record::STAGE_PLACE)) == record::ENDED_STAGE {
+    if octets::byte_at(state, record::STAGE_PLACE) == record::ENDED_STAGE {
         return Phase::EndedAt {
             kind,
             rate: rate_in(octets::byte_at(state, record::RATE_PLACE)),
@@ -62,7 +59,7 @@ fn stage_in(state: &[u8]) -> Stage
     ensures { result ≡ stage_in state.now }
 {
     stage_of(
-        u32::from(octets::byte_at(state, record::STAGE_PLACE)),
+        octets::byte_at(state, record::STAGE_PLACE),
         rate_in(octets::byte_at(state, record::RATE_PLACE)),
         octets::four_at(state, record::SIZE_PLACE) as usize,
         octets::four_at(state, record::NUMBER_PLACE) as usize,
@@ -70,7 +67,7 @@ fn stage_in(state: &[u8]) -> Stage
 }
 
 // The stage of a number; any that is none of a stage before the restart is read as the restart.
-fn stage_of(n: u32, rate: Rate, size: usize, number: usize) -> Stage
+fn stage_of(n: u8, rate: Rate, size: usize, number: usize) -> Stage
     ensures { result ≡ stage_of n rate size number }
 {
     match n {
@@ -84,26 +81,22 @@ fn stage_of(n: u32, rate: Rate, size: usize, number: usize) -> Stage
 }
 
 // The rate of a number; any other than 2 to 5 is read as 9600.
-pub(crate) fn rate_in(n: u8) -> Rate
+fn rate_in(n: u8) -> Rate
     ensures { result ≡ rate_in n }
 {
     Rate::try_from(n).unwrap_or(Rate::R9600)
 }
 
-#[tactic(auto, unfolding(crate::specs::Kept::start_in))]
-pub(crate) fn start_in(n: u8) -> Start
+// The start of a number; any other than 1 is read as at once.
+fn start_in(n: u8) -> Start
     ensures { result ≡ start_in n }
 {
-    if n == 1 {
-        Start::WithText
-    } else {
-        Start::AtOnce
-    }
+    Start::try_from(n).unwrap_or(Start::AtOnce)
 }
 
-#[tactic(auto, unfolding(crate::specs::Kept::same_in))]
-pub(crate) fn same_in(n: u8) -> Same
+// What the same version does by number; any other than 1 is read as to stop.
+fn same_in(n: u8) -> Same
     ensures { result ≡ same_in n }
 {
-    if n == 1 { Same::GoOn } else { Same::Stop }
+    Same::try_from(n).unwrap_or(Same::Stop)
 }

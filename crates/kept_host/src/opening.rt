@@ -1,13 +1,13 @@
 // The opening of a session that is kept as bytes.
 ghost use Rattle.std.specs.Prelude.{◌≡◌};
-ghost use Rattle.kept_host.specs.Kept.{opened, wishes_known, opening_by, kept_opening};
+ghost use Rattle.kept_host.specs.Kept.{opened, opening_by, kept_opening};
 
 use crate::answers::{Told, told_of};
-use crate::fields::{rate_in, same_in, start_in};
 use crate::kept::{over, write};
 use crate::record;
 use host::Session;
 use refusals::Refusal;
+use stages::{Rate, Same, Start};
 
 // What an opening by numbers leaves: the session, and its answer as C is told it.
 #[derive(Clone, Copy)]
@@ -16,7 +16,8 @@ pub struct Begun {
     pub told: Told,
 }
 
-// Opens a session: 2 and nothing written for bytes without room; else its record and its answer.
+// Opens a session: 2 and nothing written for bytes without room; else its record and its answer. The nine parameters are those of C's
+// zrn_host_open, in its order.
 pub fn open(
     state: &mut [u8],
     number: u16,
@@ -41,7 +42,8 @@ pub fn open(
     begun.told.number
 }
 
-// The opening by numbers: 106 and an ended session for a rate, start or same that is none.
+// The opening by numbers: 106 and an ended session for a rate, start or same that is none. They come one by one, as C's zrn_host_open and
+// zrn_caller_open take them.
 pub fn begin(
     number: u16,
     image: &[u8],
@@ -54,35 +56,22 @@ pub fn begin(
     ensures { record { begun = result; output = out.new }
         ≡ opening_by number first wish start same image.now out.old }
 {
-    if !known(first, start, same) {
+    let (Ok(first), Ok(start), Ok(same)) = (
+        Rate::try_from(first),
+        Start::try_from(start),
+        Same::try_from(same),
+    ) else {
         return Begun {
             session: over(image.len()),
             told: Told {
                 number: flat::UNKNOWN,
-                count: 0,
-                passed: 0,
+                ..Told::default()
             },
         };
-    }
-    let stepped = Session::opening(
-        number,
-        image,
-        rate_in(first),
-        wish,
-        start_in(start),
-        same_in(same),
-        out,
-    );
+    };
+    let stepped = Session::opening(number, image, first, wish, start, same, out);
     Begun {
         session: stepped.session,
         told: told_of(stepped.answer),
     }
-}
-
-// Whether a rate is 1 to 5 and start and same are 0 or 1.
-#[tactic(auto, unfolding(crate::specs::Kept::wishes_known))]
-fn known(first: u8, start: u8, same: u8) -> bool
-    ensures { result ≡ wishes_known first start same }
-{
-    (1..=5).contains(&first) && start <= 1 && same <= 1
 }

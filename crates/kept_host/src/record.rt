@@ -1,4 +1,5 @@
 // The record of a session: the place of each number in it, its size, and the numbers of the stages. Whatever is added comes last.
+// Places and stages are numbers and no enum: C keeps the record, and include/zrnkobal.h says them at ZRN_HOST_BYTES.
 pub(crate) const IMAGE_PLACE: usize = 0;
 
 pub(crate) const WISH_PLACE: usize = 8;
@@ -27,16 +28,16 @@ pub(crate) const RECORD_WORDS: usize = 14;
 
 pub const RECORD_BYTES: usize = 4 * RECORD_WORDS;
 
-pub(crate) const ENDED_STAGE: u32 = 0;
+pub(crate) const ENDED_STAGE: u8 = 0;
 
-pub(crate) const TEXT_STAGE: u32 = 1;
+pub(crate) const TEXT_STAGE: u8 = 1;
 
-pub(crate) const ASKING_STAGE: u32 = 2;
+pub(crate) const ASKING_STAGE: u8 = 2;
 
-pub(crate) const DECLARING_STAGE: u32 = 3;
+pub(crate) const DECLARING_STAGE: u8 = 3;
 
-pub(crate) const SENDING_STAGE: u32 = 4;
+pub(crate) const SENDING_STAGE: u8 = 4;
 
-pub(crate) const NOTICING_STAGE: u32 = 5;
+pub(crate) const NOTICING_STAGE: u8 = 5;
 
-pub(crate) const RESTARTING_STAGE: u32 = 6;
+pub(crate) const RESTARTING_STAGE: u8 = 6;

@@ -9,7 +9,7 @@ use stages::{Rate, Same, Stage, Start, rate_number};
 // What a stage puts into a record.
 #[derive(Clone, Copy)]
 pub(crate) struct Staged {
-    pub(crate) stage: u32,
+    pub(crate) stage: u8,
     pub(crate) rate: u32,
     pub(crate) size: u32,
     pub(crate) number: u32,
@@ -38,7 +38,7 @@ fn ended_words(image: usize, number: u32, rate: u32) -> [u32; record::RECORD_WOR
         flat::high(image),
         0,
         0,
-        record::ENDED_STAGE,
+        u32::from(record::ENDED_STAGE),
         number,
         0,
         rate,
@@ -60,7 +60,7 @@ fn wait_words(image: usize, staged: Staged, wait: Wait) -> [u32; record::RECORD_
         flat::high(image),
         flat::low(plan.wish),
         flat::high(plan.wish),
-        staged.stage,
+        u32::from(staged.stage),
         u32::from(kinds::number_of(plan.kind)),
         u32::from(rate_number(plan.first)),
         staged.rate,
@@ -74,7 +74,7 @@ fn wait_words(image: usize, staged: Staged, wait: Wait) -> [u32; record::RECORD_
 }
 
 // The words of a stage; what it does not have is 0.
-fn stage_words(stage: Stage) -> Staged
+pub(crate) fn stage_words(stage: Stage) -> Staged
     ensures { result ≡ stage_words stage }
 {
     match stage {
@@ -97,7 +97,7 @@ fn stage_words(stage: Stage) -> Staged
     }
 }
 
-fn stage_at(stage: u32, rate: Rate, size: usize, number: usize) -> Staged
+fn stage_at(stage: u8, rate: Rate, size: usize, number: usize) -> Staged
     ensures { result ≡ stage_at stage rate size number }
 {
     Staged {
@@ -111,17 +111,11 @@ fn stage_at(stage: u32, rate: Rate, size: usize, number: usize) -> Staged
 fn start_number(start: Start) -> u32
     ensures { result ≡ start_number start }
 {
-    match start {
-        Start::WithText => 1,
-        Start::AtOnce => 0,
-    }
+    u32::from(u8::from(start))
 }
 
 fn same_number(same: Same) -> u32
     ensures { result ≡ same_number same }
 {
-    match same {
-        Same::GoOn => 1,
-        Same::Stop => 0,
-    }
+    u32::from(u8::from(same))
 }

@@ -51,7 +51,7 @@ pub fn frame(
         ≡ kept_step state.old (Event.Frame command (length payload.now)) payload.now flash.old reply.old }
 {
     let event = Event::Frame {
-        command: command,
+        command,
         count: payload.len(),
     };
     step(state, event, payload, flash, reply, count)

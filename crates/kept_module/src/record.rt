@@ -1,4 +1,5 @@
 // The record of a session: the place of each number in it, its size, and the numbers of the phases. Whatever is added comes last.
+// Places and phases are numbers and no enum: C keeps the record, and include/zrnkobal.h says them at ZRN_MODULE_BYTES.
 pub(crate) const FLASH_PLACE: usize = 0;
 
 pub(crate) const IDLE_PLACE: usize = 8;

@@ -56,6 +56,8 @@ fn pieces_row(
     )
 }
 
+// The words one by one. They come as numbers and in no struct, since `row_of` has them so, by the same names; a struct would only spell
+// them a third time.
 fn row(
     session: Session,
     phase: u32,
@@ -111,7 +113,7 @@ pub(crate) fn stands(session: Session, state: &[u8]) -> bool
     )
 }
 
-// Writes a session over the record in the bytes, if there was one.
+// Writes a session over the record in the bytes, if there was one; whether there was comes in, as a step has compared the record already.
 pub(crate) fn keep(genuine: bool, session: Session, state: &mut [u8])
     ensures { state.new ≡ cond genuine (recorded (words_of session) state.old) state.old }
 {

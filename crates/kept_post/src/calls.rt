@@ -1,5 +1,5 @@
-// The calls: each reads the post from the bytes, gives it a byte or a time, and puts it back. Every output number is written, each
-// after the room test, and answers are numbers, since C calls them so.
+// The calls: each reads the post from the bytes, gives it a byte or a time, and puts it back. Every output number is written, as 0
+// where the bytes have no room. Answers are numbers and outputs are lent, since C calls them so.
 ghost use Rattle.std.specs.Prelude.{[], ◌≡◌};
 ghost use Rattle.posts.specs.Post.{post_left};
 ghost use Rattle.kept_module.specs.Kept.{kept, opened};

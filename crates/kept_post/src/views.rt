@@ -29,7 +29,7 @@ pub fn view(
     number_of(view.stand)
 }
 
-// How far the session is, by its number.
+// How far the session is, by the number that C's zrn_post_view answers. Stand itself has none, so no From: numbers are for C alone.
 fn number_of(stand: Stand) -> u8
     ensures { result ≡ stand_number stand }
 {
@@ -46,8 +46,5 @@ fn number_of(stand: Stand) -> u8
 fn type_of(view: View) -> u16
     ensures { result ≡ type_in view }
 {
-    match view.kind {
-        None => 0,
-        Some(kind) => kinds::number_of(kind),
-    }
+    view.kind.map_or(0, kinds::number_of)
 }

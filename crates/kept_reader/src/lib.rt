@@ -1,5 +1,5 @@
 // A reader that its caller keeps as bytes. Its record: count, opened and pending, four bytes each, then the store; whatever is added comes
-// last.
+// last. Answers are numbers, and command and count are lent outputs, as C's zrn_reader_step takes them.
 #![tactic(auto)]
 
 ghost use Rattle.std.specs.Prelude.{◌≡◌, ◌≤◌, length};
@@ -90,14 +90,12 @@ fn stands_for_one(state: &[u8]) -> bool
         && octets::four_at(state, PENDING) <= 1
 }
 
-// The bytes of the store in an array, as the library takes no memory.
+// The bytes of the store.
 fn store_in(state: &[u8]) -> [u8; CONTENT_MOST]
     requires { reader_bytes ≤ length state.now }
     ensures { result ≡ part_of state.now store_place longest_content }
 {
-    let mut store = [0u8; CONTENT_MOST];
-    octets::copy(octets::behind(state, STORE), &mut store, 0);
-    store
+    octets::bytes_at(state, STORE)
 }
 
 // Puts a reader at the front of some bytes, if they have room for one.

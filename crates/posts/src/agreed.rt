@@ -3,7 +3,7 @@ ghost use Rattle.std.specs.Prelude.{◌≡◌};
 ghost use Rattle.octets.specs.Octets.{same_bytes};
 ghost use Rattle.posts.specs.Agreed.{agreement, agreed_in};
 
-use refusals::Refusal;
+use host_model::Rate;
 
 // Where the rate stands in the reply, behind head, Length, device and command.
 const RATE_PLACE: usize = 5;
@@ -17,7 +17,7 @@ pub fn agreed_rate(reply: &[u8]) -> u8
     ensures { result ≡ agreed_in reply.now }
 {
     let rate = octets::byte_at(reply, RATE_PLACE);
-    if (1..=5).contains(&rate) && is_agreement(rate, reply) {
+    if Rate::try_from(rate).is_ok() && is_agreement(rate, reply) {
         return rate;
     }
     0
@@ -29,8 +29,5 @@ fn is_agreement(rate: u8, reply: &[u8]) -> bool
 {
     let mut own = [0u8; AGREEMENT_MOST];
     let written = wire::write(commands::RATE, &[rate, commands::ACCEPTED], &mut own);
-    match written {
-        Ok(n) => octets::same(octets::part(&own, 0, n), reply),
-        Err(_) => false,
-    }
+    written.is_ok_and(|n| octets::same(octets::part(&own, 0, n), reply))
 }

@@ -1,4 +1,4 @@
-// How a load ended.
+// How a load ended. begun, ended_by and said stay functions of these names, as docs/PROMISES.md names them and must-fail edits hold them.
 ghost use Rattle.std.specs.Prelude.{◌≡◌};
 ghost use Rattle.host_model.specs.Events.{count_in};
 ghost use Rattle.posts.specs.View.{begun_of, ending_of};

@@ -9,14 +9,9 @@ const BESIDE: usize = 13;
 pub fn piece_for(baud: u32) -> usize
     ensures { result ≡ piece_for baud }
 {
-    let bytes = in_half(baud);
-    if bytes <= BESIDE {
-        return 1;
-    }
-    if commands::LARGEST_PACKET + BESIDE <= bytes {
-        return commands::LARGEST_PACKET;
-    }
-    bytes - BESIDE
+    in_half(baud)
+        .saturating_sub(BESIDE)
+        .clamp(1, commands::LARGEST_PACKET)
 }
 
 // How many bytes such a line carries in half the time for an answer: 500 ms, ten bits a byte.

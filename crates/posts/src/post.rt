@@ -2,6 +2,7 @@
 ghost use Rattle.std.specs.Prelude.{◌≡◌};
 ghost use Rattle.posts.specs.Post.{
   post_left,
+  post_with,
   more_of,
   waiting_post,
   opened_post,
@@ -13,7 +14,7 @@ ghost use Rattle.posts.specs.Post.{
   post_waits,
 };
 
-use board_end::Board;
+use board_end::{Board, BoardStep};
 use module::{Answer, Session};
 
 // Seen is how much of the start text has been heard; dropped counts the frames that the reader has dropped.
@@ -70,15 +71,7 @@ impl Post {
             let seen = host_end::follow(&commands::START_TEXT, self.seen, byte);
             return self.listens(seen, flash, reply);
         }
-        let step = self.board.hear(byte, flash, reply);
-        PostStep {
-            post: Post {
-                board: step.board,
-                seen: 0,
-                dropped: more(self.dropped, step.dropped),
-            },
-            answer: step.answer,
-        }
+        self.went(self.board.hear(byte, flash, reply))
     }
 
     // Milliseconds pass. Without a session nobody counts them.
@@ -89,7 +82,14 @@ impl Post {
         if !self.is_open() {
             return self.says(Answer::Nothing);
         }
-        let step = self.board.wait(ms, flash, reply);
+        self.went(self.board.wait(ms, flash, reply))
+    }
+
+    // What the step of the board leaves; texts are looked at anew once its session has closed.
+    fn went(self, step: BoardStep) -> PostStep
+        ensures { result
+            ≡ record { post = post_with step.board 0 (more_of self.dropped step.dropped); answer = step.answer } }
+    {
         PostStep {
             post: Post {
                 board: step.board,

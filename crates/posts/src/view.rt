@@ -5,6 +5,7 @@ ghost use Rattle.posts.specs.View.{bare_of, seen_of, cut_of, phase_view, view_of
 use crate::post::Post;
 use kinds::Kind;
 use module::{Phase, Pieces, Transfer};
+use module_model::LONGEST_IDLE;
 
 // How far a session is: closed, ready, with parameters accepted, loading, or done.
 #[derive(Clone, Copy, Debug, PartialEq, Eq)]
@@ -17,6 +18,7 @@ pub enum Stand {
 }
 
 // The range of the transfer begins at base, and written bytes of it are in the flash. Without a transfer there is no kind.
+// base, extent and written stand beside kind and in no Option with it, as view_of has them and C's zrn_post_view hands out all four.
 #[derive(Clone, Copy, Debug, PartialEq, Eq)]
 pub struct View {
     pub stand: Stand,
@@ -78,7 +80,7 @@ fn seen(stand: Stand, transfer: Transfer, written: usize) -> View
         kind: Some(transfer.kind),
         base: kinds::base_of(transfer.kind) as usize,
         extent: transfer.extent,
-        written: written,
+        written,
     }
 }
 
@@ -86,5 +88,5 @@ fn seen(stand: Stand, transfer: Transfer, written: usize) -> View
 pub fn is_idle(post: Post) -> bool
     ensures { result ≡ idle_of post }
 {
-    post.board.session.idle > 7000
+    post.board.session.idle > LONGEST_IDLE
 }

@@ -12,6 +12,5 @@ returns c =
       c.four_at.ensures,
       c.rate_in.ensures,
       c.byte_at-2.ensures,
-      c.from.ensures,
       c.byte_at.ensures,
     )

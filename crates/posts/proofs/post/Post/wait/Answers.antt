@@ -14,6 +14,6 @@ returns-then-not-is_open c =
 pub returns : goal.returns
 unfolding post_waits
 returns c =
-    rw c.more.ensures
-    (ap (went_of c.args.self) c.wait-step.ensures
-    ∙ sym (cond_yes _ _ _ (sym c.is_open.ensures ∙ c.if-not-is_open.false)))
+    ap (λ x. post_left x c.wait.new.flash c.wait.new.reply) c.went.ensures
+    ∙ ap (went_of c.args.self) c.wait.ensures
+    ∙ sym (cond_yes _ _ _ (sym c.is_open.ensures ∙ c.if-not-is_open.false))
