@@ -53,6 +53,7 @@ impl Caller {
     }
 
     // What the step of the end leaves. The session counts the repeats of the message under way only, so each one is added up here.
+    #[tactic(auto, unfolding(crate::specs::Caller::called_step))]
     fn went(self, step: HostStep) -> CallerStep
         ensures { result ≡ called_step self step }
     {

@@ -6,6 +6,7 @@ ghost use Rattle.posts.specs.Piece.{in_half, piece_for};
 const BESIDE: usize = 13;
 
 // The piece for a line of so many bits a second: 1 to 1,024 bytes.
+#[tactic(auto, unfolding(crate::specs::Piece::piece_for))]
 pub fn piece_for(baud: u32) -> usize
     ensures { result ≡ piece_for baud }
 {

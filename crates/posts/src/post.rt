@@ -35,6 +35,7 @@ pub struct PostStep {
 
 impl Post {
     // A post that waits; an opening over nothing gives a closed session.
+    #[tactic(auto, unfolding(crate::specs::Post::waiting_post))]
     pub fn waiting() -> Post
         ensures { result ≡ waiting_post }
     {
@@ -46,6 +47,7 @@ impl Post {
     }
 
     // A post with a session open over the flash.
+    #[tactic(auto, unfolding(crate::specs::Post::opened_post))]
     pub fn opened(self, flash: &[u8]) -> Post
         ensures { result ≡ opened_post self flash.now }
     {
@@ -63,6 +65,7 @@ impl Post {
     }
 
     // Takes one byte. While a session is open texts are not looked at.
+    #[tactic(auto, unfolding(crate::specs::Post::post_hears))]
     pub fn hear(self, byte: u8, flash: &mut [u8], reply: &mut [u8]) -> PostStep
         ensures { post_left result flash.new reply.new
             ≡ post_hears self byte flash.old reply.old }
@@ -75,6 +78,7 @@ impl Post {
     }
 
     // Milliseconds pass. Without a session nobody counts them.
+    #[tactic(auto, unfolding(crate::specs::Post::post_waits))]
     pub fn wait(self, ms: u32, flash: &mut [u8], reply: &mut [u8]) -> PostStep
         ensures { post_left result flash.new reply.new
             ≡ post_waits self ms flash.old reply.old }
@@ -101,6 +105,7 @@ impl Post {
     }
 
     // So much of the start text has been heard; with all of it a session begins.
+    #[tactic(auto, unfolding(crate::specs::Post::listens))]
     fn listens(self, seen: usize, flash: &[u8], reply: &mut [u8]) -> PostStep
         ensures { post_left result flash.now reply.new
             ≡ listens self seen flash.now reply.old }
@@ -112,6 +117,7 @@ impl Post {
     }
 
     // The start text is whole: its answer, and a session. Without room for the answer nothing happens.
+    #[tactic(auto, unfolding(crate::specs::Post::begins))]
     fn begins(self, flash: &[u8], reply: &mut [u8]) -> PostStep
         ensures { post_left result flash.now reply.new
             ≡ begins self flash.now reply.old }
@@ -132,6 +138,7 @@ impl Post {
 }
 
 // One more, where something happened.
+#[tactic(auto, unfolding(crate::specs::Post::more_of))]
 pub(crate) fn more(count: usize, happened: bool) -> usize
     ensures { result ≡ more_of count happened }
 {

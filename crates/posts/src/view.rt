@@ -28,6 +28,7 @@ pub struct View {
     pub written: usize,
 }
 
+#[tactic(auto, unfolding(crate::specs::View::view_of))]
 pub fn view_of(post: Post) -> View
     ensures { result ≡ view_of post }
 {
