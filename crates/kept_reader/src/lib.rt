@@ -37,6 +37,7 @@ pub const READER_BYTES: usize = 1047;
 const COUNT_MOST: u32 = CONTENT_MOST as u32;
 
 // Makes a fresh reader; 2 where the buffer is too short for one.
+#[tactic(auto, using(flat::proofs::Room::without_room, flat::proofs::Room::with_room, crate::proofs::KeptLaws::kept_over), unfolding(crate::specs::Kept::kept_new))]
 pub fn new(state: &mut [u8]) -> u8
     ensures { record { answer = result; state = state.new } ≡ kept_new state.old }
 {
@@ -48,6 +49,7 @@ pub fn new(state: &mut [u8]) -> u8
 }
 
 // Takes one byte; 2 where the buffer is too short for a reader.
+#[tactic(auto, using(flat::proofs::Room::without_room, flat::proofs::Room::with_room, crate::proofs::KeptLaws::kept_over), unfolding(crate::specs::Kept::kept_step))]
 pub fn step(state: &mut [u8], byte: u8, command: &mut u8, count: &mut usize) -> u8
     ensures { record { answer = result; command = command.new; count = count.new; state = state.new }
         ≡ kept_step state.old byte }
@@ -65,6 +67,7 @@ pub fn step(state: &mut [u8], byte: u8, command: &mut u8, count: &mut usize) -> 
 }
 
 // The reader in some bytes; a fresh one where they stand for none.
+#[tactic(auto, using(crate::proofs::KeptLaws::stands_room), unfolding(crate::specs::Kept::reader_in))]
 pub fn reader_in(state: &[u8]) -> Reader
     ensures { result ≡ reader_in state.now }
 {
@@ -99,6 +102,7 @@ fn store_in(state: &[u8]) -> [u8; CONTENT_MOST]
 }
 
 // Puts a reader at the front of some bytes, if they have room for one.
+#[tactic(auto, using(flat::proofs::Room::without_room, crate::proofs::KeptLaws::words_and_store, crate::proofs::KeptLaws::kept_over), unfolding(crate::specs::Kept::reader_kept, crate::specs::Kept::bytes_of))]
 pub fn keep(reader: Reader, state: &mut [u8])
     ensures { state.new ≡ reader_kept reader state.old }
 {
