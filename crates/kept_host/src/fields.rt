@@ -8,6 +8,7 @@ use kinds::Kind;
 use stages::{Plan, Rate, Same, Stage, Start};
 
 // The session that the numbers say.
+#[tactic(auto, unfolding(crate::specs::Kept::fields_in))]
 pub(crate) fn fields_in(state: &[u8]) -> Session
     ensures { result ≡ fields_in state.now }
 {
@@ -26,6 +27,7 @@ fn phase_in(known: Option<Kind>, state: &[u8]) -> Phase
 }
 
 // With a known type: ended at a rate, or waiting.
+#[tactic(auto, using(crate::proofs::KeptLaws::phase_ended, crate::proofs::KeptLaws::phase_waits))]
 fn kind_phase(kind: Kind, state: &[u8]) -> Phase
     ensures { result ≡ kind_phase kind state.now }
 {
@@ -43,6 +45,7 @@ fn kind_phase(kind: Kind, state: &[u8]) -> Phase
     })
 }
 
+#[tactic(auto, unfolding(crate::specs::Kept::plan_in))]
 fn plan_in(kind: Kind, state: &[u8]) -> Plan
     ensures { result ≡ plan_in kind state.now }
 {
@@ -55,6 +58,7 @@ fn plan_in(kind: Kind, state: &[u8]) -> Plan
     }
 }
 
+#[tactic(auto, unfolding(crate::specs::Kept::stage_in))]
 fn stage_in(state: &[u8]) -> Stage
     ensures { result ≡ stage_in state.now }
 {
@@ -67,6 +71,7 @@ fn stage_in(state: &[u8]) -> Stage
 }
 
 // The stage of a number; any that is none of a stage before the restart is read as the restart.
+#[tactic(auto, unfolding(crate::specs::Kept::stage_of))]
 fn stage_of(n: u8, rate: Rate, size: usize, number: usize) -> Stage
     ensures { result ≡ stage_of n rate size number }
 {
@@ -81,6 +86,7 @@ fn stage_of(n: u8, rate: Rate, size: usize, number: usize) -> Stage
 }
 
 // The rate of a number; any other than 2 to 5 is read as 9600.
+#[tactic(auto, unfolding(crate::specs::Kept::rate_in))]
 fn rate_in(n: u8) -> Rate
     ensures { result ≡ rate_in n }
 {
@@ -88,6 +94,7 @@ fn rate_in(n: u8) -> Rate
 }
 
 // The start of a number; any other than 1 is read as at once.
+#[tactic(auto, unfolding(crate::specs::Kept::start_in))]
 fn start_in(n: u8) -> Start
     ensures { result ≡ start_in n }
 {
@@ -95,6 +102,7 @@ fn start_in(n: u8) -> Start
 }
 
 // What the same version does by number; any other than 1 is read as to stop.
+#[tactic(auto, unfolding(crate::specs::Kept::same_in))]
 fn same_in(n: u8) -> Same
     ensures { result ≡ same_in n }
 {

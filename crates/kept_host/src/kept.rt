@@ -25,6 +25,7 @@ pub fn record_of(session: Session) -> [u8; record::RECORD_BYTES]
 
 // Whether the bytes begin with the record of a session that could arise; any others are taken as an ended one. octets::same and not ==, as
 // `stands` speaks of same_bytes.
+#[tactic(auto, using(crate::proofs::KeptLaws::compared), unfolding(crate::specs::Kept::stands))]
 pub fn stands(state: &[u8]) -> bool
     ensures { result ≡ stands state.now }
 {
@@ -34,6 +35,7 @@ pub fn stands(state: &[u8]) -> bool
 }
 
 // The session that the bytes keep; any others keep an ended one over the image length that is in them.
+#[tactic(auto, unfolding(crate::specs::Kept::session_in))]
 pub fn session_in(state: &[u8]) -> Session
     ensures { result ≡ session_in state.now }
 {
@@ -44,6 +46,7 @@ pub fn session_in(state: &[u8]) -> Session
 }
 
 // Another session kept in the bytes, where they keep one.
+#[tactic(auto, unfolding(crate::specs::Kept::kept_of))]
 pub(crate) fn keep(session: Session, state: &mut [u8])
     ensures { state.new ≡ kept_of state.old session }
 {

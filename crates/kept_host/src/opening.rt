@@ -18,6 +18,7 @@ pub struct Begun {
 
 // Opens a session: 2 and nothing written for bytes without room; else its record and its answer. The nine parameters are those of C's
 // zrn_host_open, in its order.
+#[tactic(auto, unfolding(crate::specs::Kept::kept_opening))]
 pub fn open(
     state: &mut [u8],
     number: u16,

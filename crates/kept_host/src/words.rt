@@ -15,6 +15,7 @@ pub(crate) struct Staged {
     pub(crate) number: u32,
 }
 
+#[tactic(auto, unfolding(crate::specs::Kept::words_of))]
 pub(crate) fn words_of(session: Session) -> [u32; record::RECORD_WORDS]
     ensures { result ≡ words_of session }
 {

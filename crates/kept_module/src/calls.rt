@@ -12,6 +12,7 @@ use module::{Answer, Event, Session};
 use refusals::Refusal;
 
 // Opens a session over a flash: 0; 3 and a closed session; or 2, and nothing is written, where the state has no room.
+#[tactic(auto, unfolding(crate::specs::Kept::kept_opening))]
 pub fn open(state: &mut [u8], flash: &[u8]) -> u8
     ensures { opened result state.new ≡ kept_opening state.old flash.now }
 {
@@ -31,6 +32,7 @@ pub fn is_open(state: &[u8]) -> bool
 }
 
 // The session in the bytes; in the record of none a closed one over the flash length that stands there.
+#[tactic(auto, using(crate::proofs::CallLaws::session_by_law))]
 pub fn session_in(state: &[u8]) -> Session
     ensures { result ≡ session_in state.now }
 {
@@ -66,6 +68,7 @@ pub fn wait(state: &mut [u8], ms: u32, flash: &mut [u8], reply: &mut [u8], count
 }
 
 // Gives the session in the bytes one event.
+#[tactic(auto, unfolding(crate::specs::Kept::kept_step, crate::specs::Kept::session_in, crate::specs::Kept::kept_of, crate::specs::Kept::stands))]
 fn step(
     state: &mut [u8],
     event: Event,

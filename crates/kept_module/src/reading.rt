@@ -18,6 +18,7 @@ pub(crate) fn fields_in(state: &[u8]) -> Session
     }
 }
 
+#[tactic(auto, unfolding(crate::specs::Kept::phase_in))]
 fn phase_in(state: &[u8]) -> Phase
     ensures { result ≡ phase_in state.now }
 {

@@ -9,6 +9,7 @@ use kinds::Kind;
 use module::{Phase, Pieces, Session};
 
 // The words of a session.
+#[tactic(auto, unfolding(crate::specs::Kept::words_of))]
 pub(crate) fn words_of(session: Session) -> [u32; record::RECORD_WORDS]
     ensures { result ≡ words_of session }
 {
@@ -104,6 +105,7 @@ pub fn record_of(session: Session) -> [u8; record::RECORD_BYTES]
 }
 
 // Whether the front of the bytes is the record of a session. octets::same and not ==, as `stands_for` speaks of same_bytes.
+#[tactic(auto, unfolding(flat::specs::Words::stands_for))]
 pub(crate) fn stands(session: Session, state: &[u8]) -> bool
     ensures { result ≡ stands_for (words_of session) state.now }
 {
