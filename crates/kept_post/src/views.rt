@@ -29,7 +29,7 @@ pub fn view(
     number_of(view.stand)
 }
 
-// How far the session is, by the number that C's zrn_post_view answers. Stand itself has none, so no From: numbers are for C alone.
+// How far the session is, as C's zrn_post_view answers it. No From: it would have to stand in posts, which knows no number of C's.
 fn number_of(stand: Stand) -> u8
     ensures { result ≡ stand_number stand }
 {
