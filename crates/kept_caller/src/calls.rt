@@ -11,6 +11,7 @@ use posts::{Caller, CallerStep};
 use refusals::Refusal;
 
 // Opens a session: 2 and nothing written for bytes without room; else its record, with a fresh reader and nothing counted.
+#[tactic(auto, unfolding(crate::specs::Kept::kept_opening))]
 pub fn open(
     state: &mut [u8],
     number: u16,
@@ -36,6 +37,7 @@ pub fn open(
 }
 
 // A byte has arrived.
+#[tactic(auto, unfolding(crate::specs::Kept::kept_hears))]
 pub fn hear(
     state: &mut [u8],
     byte: u8,
@@ -61,6 +63,7 @@ pub fn hear(
 }
 
 // Milliseconds have passed.
+#[tactic(auto, unfolding(crate::specs::Kept::kept_waits))]
 pub fn wait(
     state: &mut [u8],
     ms: u32,
@@ -92,6 +95,7 @@ fn leave(step: CallerStep, state: &mut [u8], count: &mut usize, passed: &mut u8)
 }
 
 // What a screen needs.
+#[tactic(auto, unfolding(crate::specs::Kept::caller_in))]
 pub fn view(
     state: &[u8],
     rate: &mut u8,

@@ -8,6 +8,7 @@ use host_end::HostEnd;
 use posts::Caller;
 
 // The caller that some bytes keep.
+#[tactic(auto, unfolding(crate::specs::Kept::caller_in))]
 pub(crate) fn caller_in(state: &[u8]) -> Caller
     ensures { result ≡ caller_in state.now }
 {
@@ -23,6 +24,7 @@ pub(crate) fn caller_in(state: &[u8]) -> Caller
 }
 
 // Puts a caller into some bytes.
+#[tactic(auto, unfolding(crate::specs::Kept::caller_kept))]
 pub(crate) fn keep(caller: Caller, state: &mut [u8])
     ensures { state.new ≡ caller_kept caller state.old }
 {

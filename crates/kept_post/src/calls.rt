@@ -11,6 +11,7 @@ use posts::{Post, PostStep};
 use refusals::Refusal;
 
 // Makes a post that waits; 2 and nothing written for bytes without room.
+#[tactic(auto, unfolding(crate::specs::Kept::kept_new))]
 pub fn new(state: &mut [u8]) -> u8
     ensures { opened result state.new ≡ kept_new state.old }
 {
@@ -22,6 +23,7 @@ pub fn new(state: &mut [u8]) -> u8
 }
 
 // Makes a post with a session open over the flash, or one that waits where none can be opened; 2 as above.
+#[tactic(auto, unfolding(crate::specs::Kept::kept_opening))]
 pub fn open(state: &mut [u8], flash: &[u8]) -> u8
     ensures { opened result state.new ≡ kept_opening state.old flash.now }
 {
@@ -33,6 +35,7 @@ pub fn open(state: &mut [u8], flash: &[u8]) -> u8
 }
 
 // A byte has arrived.
+#[tactic(auto, unfolding(crate::specs::Kept::kept_hears))]
 pub fn hear(state: &mut [u8], byte: u8, flash: &mut [u8], reply: &mut [u8], count: &mut usize) -> u8
     ensures { kept result count.new state.new flash.new reply.new
         ≡ kept_hears state.old byte flash.old reply.old }
@@ -45,6 +48,7 @@ pub fn hear(state: &mut [u8], byte: u8, flash: &mut [u8], reply: &mut [u8], coun
 }
 
 // Milliseconds have passed.
+#[tactic(auto, unfolding(crate::specs::Kept::kept_waits))]
 pub fn wait(state: &mut [u8], ms: u32, flash: &mut [u8], reply: &mut [u8], count: &mut usize) -> u8
     ensures { kept result count.new state.new flash.new reply.new
         ≡ kept_waits state.old ms flash.old reply.old }

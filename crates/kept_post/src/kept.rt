@@ -8,6 +8,7 @@ use board_end::Board;
 use posts::Post;
 
 // The post that some bytes keep.
+#[tactic(auto, unfolding(crate::specs::Kept::post_in))]
 pub(crate) fn post_in(state: &[u8]) -> Post
     ensures { result ≡ post_in state.now }
 {
@@ -22,6 +23,7 @@ pub(crate) fn post_in(state: &[u8]) -> Post
 }
 
 // Puts a post into some bytes.
+#[tactic(auto, unfolding(crate::specs::Kept::post_kept))]
 pub(crate) fn keep(post: Post, state: &mut [u8])
     ensures { state.new ≡ post_kept post state.old }
 {

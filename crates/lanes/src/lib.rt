@@ -37,6 +37,7 @@ impl Lane {
     }
 
     // A lane that nothing is under way on begins anew at the front.
+    #[tactic(auto, unfolding(crate::specs::Lanes::cleared_of))]
     fn clear(&mut self)
         ensures { self.new ≡ cleared_of self.old }
     {
@@ -127,6 +128,7 @@ impl Line<'_> {
         self.put(byte);
     }
 
+    #[tactic(auto, unfolding(crate::specs::Lanes::put_of))]
     fn put(&mut self, byte: u8)
         ensures { way self.new.lane self.new.bytes.now ≡ put_of self.old.lane byte self.old.bytes.now }
     {
