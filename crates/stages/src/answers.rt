@@ -202,6 +202,7 @@ fn text_move(first: Rate, line: &[u8]) -> Move
 }
 
 // What ACK 00, 01 and 02 lead to; 10 asks for the frame again, any other counts as no answer.
+#[tactic(auto, using(host_model::proofs::AnswersLaws::ack_accepted, host_model::proofs::AnswersLaws::ack_first, host_model::proofs::AnswersLaws::ack_second, host_model::proofs::AnswersLaws::ack_again, host_model::proofs::AnswersLaws::ack_other))]
 fn by_ack(ack: u8, yes: Move, first: Move, second: Move) -> Move
     ensures { result ≡ by_ack ack yes first second }
 {
