@@ -3,7 +3,6 @@ ghost use Rattle.std.specs.Prelude.{◌≡◌};
 ghost use Rattle.kept_post.specs.Kept.{stand_number, type_in, seen_as, view_in};
 
 use crate::kept::post_in;
-use crate::record;
 use posts::{Stand, View};
 
 pub fn view(

@@ -5,7 +5,7 @@
 ghost use Rattle.std.specs.Prelude.{◌≡◌, ◌≤◌, length};
 ghost use Rattle.octets.specs.Octets.{part_of};
 ghost use Rattle.wire.specs.Frame.{longest_content};
-ghost use Rattle.reader.specs.Reader.{fresh, number_in, command_in, count_in};
+ghost use Rattle.reader.specs.Reader.{number_in, command_in, count_in};
 ghost use Rattle.kept_reader.specs.Kept.{
   reader_bytes,
   store_place,

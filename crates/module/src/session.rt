@@ -1,5 +1,5 @@
 // The session: opened over a flash, stepped by value, handed back beside the answer.
-ghost use Rattle.std.specs.Prelude.{◌≡◌, ◌≤◌, true, length};
+ghost use Rattle.std.specs.Prelude.{◌≡◌, true};
 ghost use Rattle.module.specs.Session.{opening_of, stepped, takes};
 ghost use Rattle.module_model.specs.Phases.{openable, alive, fits, cuts, loading_arises, done_arises, held};
 ghost use Rattle.module.specs.Step.{left, frame_step, time_step, step_of};

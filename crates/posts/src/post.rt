@@ -7,7 +7,6 @@ ghost use Rattle.posts.specs.Post.{
   waiting_post,
   opened_post,
   is_open,
-  silent,
   begins,
   listens,
   post_hears,

@@ -1,6 +1,6 @@
 // What an answer of the module does: which answers fit a stage, and where each leads. Nothing is sent here.
 ghost use Rattle.std.specs.Prelude.{◌≡◌, length};
-ghost use Rattle.host_model.specs.Answers.{by_ack, lower_move, rate_move, piece_size, size_move, parameters_move, accepted_move, same_move, packet_move, notice_move, fitting, rate_answer, parameters_answer, packet_answer, notice_answer, restart_answer, frame_move, text_move, line_move};
+ghost use Rattle.host_model.specs.Answers.{by_ack, lower_move, rate_move, size_move, parameters_move, accepted_move, same_move, packet_move, notice_move, fitting, rate_answer, parameters_answer, packet_answer, notice_answer, restart_answer, frame_move, text_move, line_move};
 
 use commands::{LARGEST_PACKET, LARGEST_TOTAL};
 use host_model::{Move, Plan, Rate, Same, Stage};

@@ -1,6 +1,6 @@
 // How long and how often a message is awaited, and which numbers of a waiting session could arise.
 ghost use Rattle.std.specs.Prelude.{◌≡◌};
-ghost use Rattle.host_model.specs.Waits.{most_repeats, limit_of, wait, first_stage, loadable, wait_fits, phase_arises};
+ghost use Rattle.host_model.specs.Waits.{limit_of, wait, first_stage, loadable, wait_fits, phase_arises};
 
 use host_model::{Phase, Plan, Rate, Stage, Start, Wait};
 use kinds::Kind;
