@@ -1,4 +1,4 @@
-// Bytes as the papers print them: two capital hex digits each.
+// Bytes as the papers print them: two capital hex digits each, in a buffer that is lent. The programs print by formats; this is for who has none.
 #![tactic(auto)]
 
 ghost use Rattle.std.specs.Prelude.{◌≡◌, ◌<◌};

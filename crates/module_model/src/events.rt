@@ -4,8 +4,8 @@ use refusals::Refusal;
 // The smallest reply buffer.
 pub const SMALLEST_REPLY: usize = 64;
 
-// A frame has arrived, with the first count bytes of the payload lent beside it; or milliseconds have passed. The count is no slice's own: a step
-// takes any (`step_of`, module/Step).
+// A frame has arrived, with the first count bytes of the payload lent beside it; or milliseconds have passed. The count is no slice's own:
+// a step takes any (`step_of`, module/Step).
 #[derive(Clone, Copy)]
 pub enum Event {
     Frame { command: u8, count: usize },

@@ -16,8 +16,8 @@ pub struct Reader {
     pub pending: bool,
 }
 
-// What a byte brought. A frame's payload is the next count bytes of the store behind Length, device and command: the store goes out with the
-// reader, so no slice of it can stand here.
+// What a byte brought. A frame's payload is the next count bytes of the store behind Length, device and command: the store goes out with
+// the reader, so no slice of it can stand here.
 #[derive(Clone, Copy)]
 pub enum Heard {
     Nothing,

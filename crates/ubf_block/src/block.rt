@@ -75,7 +75,8 @@ pub fn image(s: &[u8], block: Block) -> &[u8]
     octets::part(s, block.start as usize, block.extent as usize)
 }
 
-// The texts, each with the zeros that fill its field, as parts of the bytes: one `octets::part` each, under the name that C and PROMISES call it by.
+// The texts, each with the zeros that fill its field, as parts of the bytes: one `octets::part` each, under the name that C and PROMISES
+// call it by.
 pub fn model(s: &[u8]) -> &[u8]
     ensures { result.now ≡ model_in s.now }
 {
