@@ -23,15 +23,14 @@ pub fn record_of(session: Session) -> [u8; record::RECORD_BYTES]
     flat::spelled(&words_of(session))
 }
 
-// Whether the bytes begin with the record of a session that could arise; any others are taken as an ended one. octets::same and not ==, as
-// `stands` speaks of same_bytes.
-#[tactic(auto, using(crate::proofs::KeptLaws::compared), unfolding(crate::specs::Kept::stands))]
+// Whether the bytes begin with the record of a session that could arise; any others are taken as an ended one.
+#[tactic(auto, using(crate::proofs::KeptLaws::compared, octets::proofs::Words::same_pointwise), unfolding(crate::specs::Kept::stands))]
 pub fn stands(state: &[u8]) -> bool
     ensures { result ≡ stands state.now }
 {
     let session = fields_in(state);
     let front = octets::part(state, 0, record::RECORD_BYTES);
-    octets::same(&record_of(session), front) && session.can_arise()
+    record_of(session).as_slice() == front && session.can_arise()
 }
 
 // The session that the bytes keep; any others keep an ended one over the image length that is in them.

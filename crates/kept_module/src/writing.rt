@@ -104,15 +104,12 @@ pub fn record_of(session: Session) -> [u8; record::RECORD_BYTES]
     flat::spelled(&words_of(session))
 }
 
-// Whether the front of the bytes is the record of a session. octets::same and not ==, as `stands_for` speaks of same_bytes.
-#[tactic(auto, unfolding(flat::specs::Words::stands_for))]
+// Whether the front of the bytes is the record of a session.
+#[tactic(auto, using(octets::proofs::Words::same_pointwise), unfolding(flat::specs::Words::stands_for))]
 pub(crate) fn stands(session: Session, state: &[u8]) -> bool
     ensures { result ≡ stands_for (words_of session) state.now }
 {
-    octets::same(
-        &record_of(session),
-        octets::part(state, 0, record::RECORD_BYTES),
-    )
+    record_of(session).as_slice() == octets::part(state, 0, record::RECORD_BYTES)
 }
 
 // Writes a session over the record in the bytes, if there was one; whether there was comes in, as a step has compared the record already.

@@ -27,7 +27,8 @@ pub fn zeros(s: &[u8]) -> bool
     s.iter().all(|&byte| byte == 0)
 }
 
-// Whether two runs are the same, in length and byte for byte: == with its answer in the word of the definitions, same_bytes.
+// Whether two runs are the same, in length and byte for byte. No crate here calls it, as == says it; it stays for who uses this one, which
+// README names.
 #[tactic(auto, using(crate::proofs::Words::same_pointwise))]
 pub fn same(a: &[u8], b: &[u8]) -> bool
     ensures { result ≡ same_bytes a.now b.now }
@@ -56,7 +57,7 @@ pub fn fill(d: &mut [u8], at: usize, n: usize, byte: u8)
     }
 }
 
-// The smaller of two numbers. No crate here calls it; it stays for who uses this one, which README names.
+// The smaller of two numbers; it stays as `same` does.
 pub fn least(a: usize, b: usize) -> usize
     ensures { result ≡ min a b }
 {

@@ -23,11 +23,11 @@ pub fn agreed_rate(reply: &[u8]) -> u8
     0
 }
 
-// Whether a reply is the one that agrees to a rate. octets::same and not ==, as the contract speaks of same_bytes.
+// Whether a reply is the one that agrees to a rate.
 fn is_agreement(rate: u8, reply: &[u8]) -> bool
     ensures { result ≡ same_bytes (agreement rate) reply.now }
 {
     let mut own = [0u8; AGREEMENT_MOST];
     let written = wire::write(commands::RATE, &[rate, commands::ACCEPTED], &mut own);
-    written.is_ok_and(|n| octets::same(octets::part(&own, 0, n), reply))
+    written.is_ok_and(|n| octets::part(&own, 0, n) == reply)
 }

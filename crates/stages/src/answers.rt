@@ -194,8 +194,7 @@ pub fn line_move(plan: Plan, stage: Stage, line: &[u8]) -> Move
 fn text_move(first: Rate, line: &[u8]) -> Move
     ensures { result ≡ text_move first line.now }
 {
-    // Tried with ==: the clause, which says same_bytes, did not close.
-    if octets::same(line, &commands::START_ANSWER) {
+    if line == commands::START_ANSWER.as_slice() {
         return Move::Enter(Stage::Asking(first));
     }
     Move::Stay

@@ -2,6 +2,7 @@
 use Rattle.std.proofs.Common.{of_calls, ℕ, List, ◌≡◌, refl, ◌∙◌}
 use Rattle.std.specs.Prelude.{Bool, false, Result, Ok, Err, MatchResult, length}
 use Rattle.octets.specs.Octets.{same_bytes, part_of}
+use Rattle.octets.proofs.Words.{same_pointwise}
 use Rattle.refusals.specs.declared.Refusal.{Refusal}
 use Rattle.wire.specs.Write.{write_of}
 use Rattle.commands.specs.Commands.{accepted, rate_reply}
@@ -20,4 +21,4 @@ compared rate own after reply (Err e) size wrote b says h each = absurd (agreeme
 pub returns : goal.returns
 returns c =
     let a = c.args in
-    compared a.rate _ c.write-written.new.out a.reply.now _ refl c.write-written.ensures c.is_ok_and.result _ c.is_ok_and.ensures (λ n h. search of_calls)
+    compared a.rate _ c.write-written.new.out a.reply.now _ refl c.write-written.ensures c.is_ok_and.result _ c.is_ok_and.ensures (λ n h. search (of_calls, same_pointwise))
