@@ -45,7 +45,7 @@ fn width(byte: u8) -> usize
     if is_mark(byte) { 2 } else { 1 }
 }
 
-// The wire form of content over the front of an output that has room for it.
+// The wire form of content over the front of an output that has room for it. The place goes along, since a byte takes one or two.
 fn lay(content: &[u8], out: &mut [u8])
     requires { length (wire_form content.now) ≤ length out.old }
     ensures { out.new ≡ over (wire_form content.now) out.old }
