@@ -7,6 +7,7 @@ use std::io;
 use std::rt::Files;
 use ubf::{Block, Nth};
 
+// Each program has such a main: a common one that takes a closure would be no plainer.
 fn main(rt: HostRuntime) {
     let err = rt.stderr();
     match console::arguments(&rt) {

@@ -19,6 +19,7 @@ struct Wish<'a> {
     opened: bool,
 }
 
+// Each program has such a main: a common one that takes a closure would be no plainer.
 fn main(rt: HostRuntime) {
     let err = rt.stderr();
     match console::arguments(&rt) {

@@ -20,6 +20,7 @@ struct Desk<'a, P: Print> {
     noise: Noise,
 }
 
+// Each program has such a main: a common one that takes a closure would be no plainer.
 fn main(rt: HostRuntime) {
     let err = rt.stderr();
     match console::arguments(&rt) {

@@ -41,6 +41,7 @@ impl From<Refusal> for Unpacked {
     }
 }
 
+// Each program has such a main: a common one that takes a closure would be no plainer.
 fn main(rt: HostRuntime) {
     let err = rt.stderr();
     match console::arguments(&rt) {
