@@ -1,4 +1,5 @@
-// The five rates by number, and which of them a load may ask for.
+// The five rates by number, and which of them a load may ask for. Calls under the names of the definitions, which edits hold, over From and
+// the order that Rate derives.
 #![tactic(auto)]
 
 ghost use Rattle.std.specs.Prelude.{◌≡◌};

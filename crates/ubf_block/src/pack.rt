@@ -22,7 +22,7 @@ use ubf_model::{
 };
 
 // Writes a block into the output: type, address and start of the image, four texts without their zeros, the image.
-// C (zrn_ubf_write) and README give each text by itself, so each stays a parameter of its own; inside they are `Texts`.
+// C (zrn_ubf_write) gives each text by itself, so each stays a parameter of its own; inside they are `Texts`.
 #[tactic(auto, unfolding(ubf_model::specs::Pack::pack_of))]
 pub fn write(
     numbers: Numbers,
