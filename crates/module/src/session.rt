@@ -211,7 +211,7 @@ fn is_loading(pieces: Pieces, flash: usize, number: usize, written: usize) -> bo
     if pieces::count(pieces.transfer.extent, pieces.size) <= number {
         return false;
     }
-    // A number below the count of a cut keeps the product small.
+    // A number below the count of a cut keeps the product small. Tried as one condition with the tests above: its bound did not close.
     is_fit(pieces.transfer, flash) && 1 <= number && written == number * pieces.size
 }
 
