@@ -12,8 +12,8 @@ pub struct Board {
     pub session: Session,
 }
 
-// The board after a byte or a time, the session's answer, and whether the reader has dropped a frame: counted beside the answer, no case of
-// it. A struct of its own and no generic one: statements name the parts, and `.board` says more than `.0`.
+// The board after a byte or a time, the session's answer, and whether the reader has dropped a frame, of which board_left speaks beside
+// the answer. A struct of its own and no generic one: statements name the parts, and `.board` says more than `.0`.
 #[derive(Clone, Copy)]
 pub struct BoardStep {
     pub board: Board,

@@ -57,7 +57,8 @@ pub fn write_parameters(kind: Kind, extent: usize, out: &mut [u8]) -> Result<usi
     wire::write(PARAMETERS, &payload, out)
 }
 
-// Writes 0x05: Total, PkNo, PkSize and the piece, which is a part of the image.
+// Writes 0x05: Total, PkNo, PkSize and the piece, which is a part of the image. Each number is cut to its field first: `as` takes only one
+// that fits.
 #[tactic(auto, using(wire::specs::WriteLaws::write_too_long, crate::specs::CommandsLaws::length_packet, crate::specs::CommandsLaws::packet_built))]
 pub fn write_packet(
     image: &[u8],

@@ -27,6 +27,7 @@ pub struct Answered {
     pub count: usize,
 }
 
+// The numbers of an answer, here and in numbers_in: calls and no From, as edits hold them by these names.
 fn numbers_of(nth: Nth) -> Answered
     ensures { result ≡ nth_flat nth }
 {

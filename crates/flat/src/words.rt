@@ -26,7 +26,7 @@ pub fn spelled<const N: usize>(words: &[u32]) -> [u8; N]
     bytes
 }
 
-// The number in the eight bytes from a place on.
+// The number in the eight bytes from a place on; as with octets' two_at and four_at, no trait of std has from_le_bytes.
 #[tactic(auto, using(octets::proofs::Words::eight_read))]
 pub fn eight_at(s: &[u8], at: usize) -> usize
     ensures { result ≡ number_at 8 s.now at }
@@ -34,7 +34,7 @@ pub fn eight_at(s: &[u8], at: usize) -> usize
     usize::from_le_bytes(octets::bytes_at(s, at))
 }
 
-// The two words of a number of eight bytes.
+// The two words of a number of eight bytes; `as` takes only a number that fits.
 pub fn low(x: usize) -> u32
     ensures { result ≡ low_half x }
 {

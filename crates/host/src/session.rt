@@ -29,7 +29,8 @@ pub struct Stepped {
 }
 
 impl Session {
-    // Opens a session: 6, 8, then 2; else the first text or frame stands at the front of the output. README's call gives each wish by itself.
+    // Opens a session: 6, 8, then 2; else the first text or frame stands at the front of the output. Each wish comes by
+    // itself, as C (zrn_host_open) gives it; from here on they are one `Plan`.
     #[tactic(auto, using(host_model::proofs::NextsLaws::plan_small, host_model::proofs::NextsLaws::small_next_same), unfolding(crate::specs::Step::opening_of))]
     pub fn opening(
         number: u16,

@@ -1,6 +1,6 @@
 // The calls: each reads the caller from the bytes, gives it a byte or a time, and puts it back. Every output number is written, as 0
 // by open, hear and wait where the bytes have no room. Answers are numbers and outputs are lent, since C calls them so.
-// hear and wait differ in one call: a closure that borrows their buffers would be no plainer.
+// hear and wait, and open and kept_host's, differ in one call: a closure that borrows their buffers would be no plainer.
 ghost use Rattle.std.specs.Prelude.{[], ◌≡◌};
 ghost use Rattle.posts.specs.Caller.{caller_left};
 ghost use Rattle.kept_host.specs.Kept.{kept, opened};

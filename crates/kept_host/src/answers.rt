@@ -14,6 +14,7 @@ pub struct Told {
     pub passed: u8,
 }
 
+// A call and no From, as PROMISES names it.
 pub fn told_of(answer: Answer) -> Told
     ensures { result ≡ told_of answer }
 {

@@ -9,7 +9,8 @@ use crate::record;
 use crate::words::words_of;
 use host::{Phase, Session};
 
-// The record of a session, at the front of the bytes.
+// The record of a session, at the front of the bytes. This and record_of are one line each over flat's generic calls, as kept_module's are:
+// PROMISES names all four.
 pub fn write(session: Session, state: &mut [u8])
     ensures { state.new ≡ recorded (words_of session) state.old }
 {
@@ -54,6 +55,7 @@ pub(crate) fn keep(session: Session, state: &mut [u8])
     }
 }
 
+// As host's private call: a struct of two fields, and no public call more.
 pub(crate) fn over(image: usize) -> Session
     ensures { result ≡ ended_of image }
 {

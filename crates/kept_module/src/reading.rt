@@ -69,8 +69,8 @@ fn word_at(state: &[u8], at: usize) -> usize
     octets::four_at(state, at) as usize
 }
 
-// The session read, where it stands; else a closed one over its flash length. The flag comes in beside it, as `session_by` takes it and
-// a step, which needs it again to write, so compares the record only once.
+// The session read, where it stands; else a closed one over its flash length. The flag comes in beside it: a step needs the session either way
+// and the flag alone once more, to write, so an Option would be no plainer.
 pub(crate) fn session_of(genuine: bool, fields: Session) -> Session
     ensures { result ≡ session_by genuine fields }
 {

@@ -90,7 +90,8 @@ fn type_of(kind: Kind) -> u32
     u32::from(kinds::number_of(kind))
 }
 
-// The record of a session, at the front of the bytes.
+// The record of a session, at the front of the bytes. This and record_of are one line each over flat's generic calls, as kept_host's are:
+// PROMISES names all four.
 pub fn write(session: Session, state: &mut [u8])
     ensures { state.new ≡ recorded (words_of session) state.old }
 {
@@ -104,7 +105,7 @@ pub fn record_of(session: Session) -> [u8; record::RECORD_BYTES]
     flat::spelled(&words_of(session))
 }
 
-// Whether the front of the bytes is the record of a session.
+// Whether the front of the bytes is the record of a session: one comparison, as in kept_host, so a generic one would be no plainer.
 #[tactic(auto, using(octets::proofs::Words::same_pointwise), unfolding(flat::specs::Words::stands_for))]
 pub(crate) fn stands(session: Session, state: &[u8]) -> bool
     ensures { result ≡ stands_for (words_of session) state.now }

@@ -1,6 +1,6 @@
 // The calls: each reads the post from the bytes, gives it a byte or a time, and puts it back. Every output number is written, as 0
 // where the bytes have no room. Answers are numbers and outputs are lent, since C calls them so.
-// hear and wait differ in one call: a closure that borrows their buffers would be no plainer.
+// hear and wait, and new and open, differ in one call: a closure that borrows their buffers would be no plainer.
 ghost use Rattle.std.specs.Prelude.{[], ◌≡◌};
 ghost use Rattle.posts.specs.Post.{post_left};
 ghost use Rattle.kept_module.specs.Kept.{kept, opened};

@@ -69,7 +69,7 @@ impl fmt::Display for UnknownType {
 
 impl Error for UnknownType {}
 
-// The kind of a type number, if there is one.
+// The kind of a type number, if there is one. This and number_of are calls that PROMISES names, over TryFrom and From.
 pub fn kind_of(number: u16) -> Option<Kind>
     ensures { result ≡ kind_of number }
 {

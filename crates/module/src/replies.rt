@@ -9,7 +9,7 @@ ghost use Rattle.module.specs.StepLaws.{short_payload, short_wire, Wrote};
 
 use module_model::{Answer, SMALLEST_REPLY, Say};
 
-// Room for all that is said at once.
+// Room for all that is said at once: an array, as the library takes no memory.
 pub(crate) type Reply = [u8; SMALLEST_REPLY];
 
 // Writes what is to be said at the front of the reply buffer.

@@ -18,7 +18,8 @@ pub const STATE_WHOLE: u8 = 0x00;
 
 pub const STATE_SHORT: u8 = 0x01;
 
-// What a reply says, by command; Last is the acknowledgement of the last packet with the notice behind it.
+// What a reply says, by command; Last is the acknowledgement of the last packet with the notice behind it. ack and state are bytes of the wire
+// as they go out: `packet_reply` and its like (commands) take any.
 #[derive(Clone, Copy)]
 pub enum Say {
     Nothing,

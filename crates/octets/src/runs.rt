@@ -27,8 +27,8 @@ pub fn zeros(s: &[u8]) -> bool
     s.iter().all(|&byte| byte == 0)
 }
 
-// Whether two runs are the same, in length and byte for byte. No crate here calls it, as == says it; it stays for who uses this one, which
-// README names.
+// Whether two runs are the same, in length and byte for byte. No crate here calls it, as == says it; PROMISES names the
+// call.
 #[tactic(auto, using(crate::proofs::Words::same_pointwise))]
 pub fn same(a: &[u8], b: &[u8]) -> bool
     ensures { result ≡ same_bytes a.now b.now }

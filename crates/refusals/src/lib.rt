@@ -35,22 +35,7 @@ impl Refusal {
     pub fn number(self) -> u8
         ensures { result ≡ refusal_number self }
     {
-        match self {
-            Refusal::PayloadTooLong => 1,
-            Refusal::NoRoom => 2,
-            Refusal::WrongLength => 3,
-            Refusal::FileEnds => 4,
-            Refusal::WrongMark => 5,
-            Refusal::WrongType => 6,
-            Refusal::WrongStart => 7,
-            Refusal::WrongImageLength => 8,
-            Refusal::NotZeroFilled => 9,
-            Refusal::WrongImageCheck => 10,
-            Refusal::WrongPieces => 11,
-            Refusal::NoAnswer => 20,
-            Refusal::ModuleRefused => 21,
-            Refusal::BadNotice => 22,
-        }
+        u8::from(self)
     }
 
     // The words beside its number.
@@ -73,6 +58,29 @@ impl Refusal {
             Refusal::NoAnswer => "no fitting answer after 3 repeats",
             Refusal::ModuleRefused => "the module refused",
             Refusal::BadNotice => "the module reports a failure",
+        }
+    }
+}
+
+impl From<Refusal> for u8 {
+    ghost from_gives = { λ refusal number. number ≡ refusal_number refusal };
+
+    fn from(refusal: Refusal) -> u8 {
+        match refusal {
+            Refusal::PayloadTooLong => 1,
+            Refusal::NoRoom => 2,
+            Refusal::WrongLength => 3,
+            Refusal::FileEnds => 4,
+            Refusal::WrongMark => 5,
+            Refusal::WrongType => 6,
+            Refusal::WrongStart => 7,
+            Refusal::WrongImageLength => 8,
+            Refusal::NotZeroFilled => 9,
+            Refusal::WrongImageCheck => 10,
+            Refusal::WrongPieces => 11,
+            Refusal::NoAnswer => 20,
+            Refusal::ModuleRefused => 21,
+            Refusal::BadNotice => 22,
         }
     }
 }
