@@ -2,7 +2,7 @@
 use Rattle.std.specs.Prelude.{ℕ, suc, ◌+◌, ◌*◌, ◌/◌, ◌≤◌, ◌<◌, List, [], ◌∷◌, ◌++◌, ◌≡◌, refl, length, take, get_or}
 use Rattle.std.proofs.Common.{append_assoc, append-nil, sym, ap, ◌∙◌, arith, add-one, length-append, take-suc, length-take-le}
 use Rattle.octets.specs.Octets.{spelled, little, number_at, laid, over}
-use Rattle.octets.proofs.OctetsLaws.{length_spelled, number_step, over_laid}
+use Rattle.octets.proofs.OctetsLaws.{length_spelled, number_step, over_laid, length_over}
 use Rattle.flat.specs.Words.{spelled_all}
 
 pub length_spelled_all : (ws : List ℕ) → length (spelled_all ws) ≡ 4 * length ws
@@ -41,3 +41,10 @@ words_laid ws state i h room =
     let size : length (spelled_all (take i ws)) ≡ i * 4 = length_spelled_all (take i ws) ∙ rw (length-take-le i ws (omega arith)) (omega arith) in
     over_laid (spelled_all (take i ws)) state (spelled 4 (get_or ws i 0)) (i * 4) size (rw length_spelled (omega arith))
     ∙ ap (λ (l : List ℕ). over l state) (sym (spelled_more ws i h))
+
+-- So far the buffer has kept its length.
+pub length_words : (ws state : List ℕ) (i : ℕ) → i ≤ length ws → length ws ≤ length state / 4
+    → length (over (spelled_all (take i ws)) state) ≡ length state
+length_words ws state i h room =
+    length_over (spelled_all (take i ws)) state
+    (rw (length_spelled_all (take i ws), length-take-le i ws h) (omega arith))

@@ -3,6 +3,8 @@ use Rattle.std.specs.Prelude.{ℕ, ◌≤◌, Bool, List, ◌≡◌, refl, lengt
 use Rattle.std.proofs.Common.{◌∙◌, le-ltb}
 use Rattle.flat.specs.Words.{spelled_all, recorded, stands_for}
 use Rattle.flat.specs.WordsLaws.{length_spelled_all}
+use Rattle.flat.specs.Found.{recorded_alone}
+use Rattle.octets.specs.Octets.{same_bytes, part_of}
 use Rattle.module_model.specs.Answers.{number_in}
 use Rattle.module.specs.Session.{opening_of}
 use Rattle.module_model.specs.declared.phases.Phase.{Phase}
@@ -27,6 +29,12 @@ words_count s = go s.phase
 -- and how many bytes.
 pub record_size : (s : Session) → length (spelled_all (words_of s)) ≡ record_bytes
 record_size s = length_spelled_all (words_of s) ∙ rw (words_count s)
+
+-- Compared with as many bytes, it tells whether these are the record.
+pub stands_by : (s : Session) (st bytes : List ℕ) → length bytes ≡ record_bytes
+    → same_bytes (recorded (words_of s) bytes) (part_of st 0 record_bytes) ≡ stands_for (words_of s) st
+unfolding stands_for
+stands_by s st bytes e = rw (recorded_alone (words_of s) bytes (e ∙ rw (words_count s)), record_size s)
 
 -- The session read.
 pub session_by_law : (st : List ℕ) (fields s : Session) (genuine : Bool) → fields ≡ fields_in st → genuine ≡ stands_for (words_of fields) st

@@ -1,9 +1,11 @@
 -- Facts about lists and bytes that several crates use.
-use Rattle.std.specs.Prelude.{ℕ, zero, suc, ◌+◌, ◌-◌, ◌/◌, ◌≤◌, ◌<◌, ◌≡◌, length, get_or, take, drop, replicate}
+use Rattle.std.specs.Prelude.{ℕ, zero, suc, ◌+◌, ◌-◌, ◌/◌, ◌≤◌, ◌<◌, min, ◌≡◌, length, get_or, take, drop, replicate}
 use mathlib.Core.List.Memᴰ
 use mathlib.Core.List.{List, [], ◌∷◌, ◌++◌, map, Memᴰ}
 use Rattle.std.proofs.Common.{⊎_elim, sym, arith, length-drop, take_all, take-take, length-take-le}
-use Rattle.std.proofs.Math.Seq.{take-nil}
+use Rattle.std.proofs.Math.Decide.{dec_le}
+use Rattle.std.proofs.Math.Nat.{min-eq_left, min-eq_right}
+use Rattle.std.proofs.Math.Seq.{take-nil, take-length}
 use Rattle.octets.specs.Octets.{Bytes, spelled, Front}
 
 -- A part that lies in the first k elements is a part of those.
@@ -66,3 +68,11 @@ rest_part l n = take_all (length l - n) (drop n l) (rw length-drop (omega arith)
 -- Bytes at the front of a buffer.
 pub front_of : (n : ℕ) (out : List ℕ) → n ≤ length out → Front n out
 front_of n out h = (h, sym (length-take-le n out h))
+
+-- The first k elements, or all where there are fewer.
+pub take_least : {A : Type 0} (k : ℕ) (l : List A) → take (min (length l) k) l ≡ take k l
+take_least k l = go (dec_le (length l) k)
+  where
+    go : Dec (length l ≤ k) → take (min (length l) k) l ≡ take k l
+    go (yes h) = rw (min-eq_left h, take-length, take_all k l h)
+    go (no h) = let less : k ≤ length l = omega arith in rw (min-eq_right less)

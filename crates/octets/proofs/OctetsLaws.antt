@@ -1,18 +1,59 @@
 -- The laws of Octets.
-use Rattle.std.specs.Prelude.{ℕ, zero, suc, ◌+◌, ◌*◌, ◌-◌, ◌/◌, ◌%◌, ◌^◌, ◌≤◌, ◌<◌, true, List, [], ◌∷◌, ◌++◌, ◌≡◌, refl, eqb, length, get_or, take, drop, set}
+use Rattle.std.specs.Prelude.{ℕ, zero, suc, ◌+◌, ◌*◌, ◌-◌, ◌/◌, ◌%◌, ◌^◌, ◌≤◌, ◌<◌, min, Bool, true, false, ◌&&◌, List, [], ◌∷◌, ◌++◌, ◌≡◌, refl, eqb, length, get_or, take, drop, set}
+use Rattle.std.proofs.Math.Bool.{and-false}
 use Rattle.std.proofs.lemmas.Bool.{false≢true}
-use Rattle.std.proofs.Common.{append_assoc, append-nil, sym, ap, ap₂, ◌∙◌, le_trans, le-add_right, div-lt_iff_lt-mul, pow-suc, mul_right_comm, mod-lt, mod-eq_of_lt, add-one, arith, eq-eqb, eqb-true, lit<, length-append, length-drop, drop_of_length-le, take-append-drop, drop-cons, take_all, take_at, drop-drop, length-take-le, get_or-append-add, get_or-take, get_or-drop}
-use Rattle.std.proofs.Math.Nat.{div-add-mod, mul-add-mod_self_left}
+use Rattle.std.proofs.Common.{append_assoc, append-nil, sym, ap, ap₂, ◌∙◌, le_trans, le-add_right, div-lt_iff_lt-mul, pow-suc, mul_right_comm, mod-lt, mod-eq_of_lt, add-one, arith, eq-eqb, eqb-true, ne_eqb, lit<, length-append, length-drop, drop_of_length-le, take-append-drop, take-suc, drop-cons, take_all, take_at, drop-drop, length-take-le, get_or-append-add, get_or-take, get_or-drop}
+use Rattle.std.proofs.Math.Decide.{dec_le}
+use Rattle.std.proofs.Math.Nat.{min-eq_left, min-eq_right, div-add-mod, mul-add-mod_self_left}
 use Rattle.std.proofs.Math.Numerals.{add-two}
+use Rattle.std.specs.Int.Bits.{bit_xor}
 use Rattle.std.proofs.Math.ListN.{get_or-append}
-use Rattle.std.proofs.Math.Seq.{take-nil, drop-nil, set-append_seam, append_snoc, drop-append-add}
+use Rattle.std.proofs.Math.Seq.{drop-length, take-length, take-nil, drop-nil, set-append_seam, append_snoc, paste, drop-append-add}
 use Rattle.std.proofs.lemmas.List.Edits.{sets}
 use Rattle.octets.proofs.Choice.{both, either_way}
-use Rattle.octets.specs.Octets.{text_length, Bytes, little, spelled, number_at, same_bytes, laid, over}
+use Rattle.octets.specs.Octets.{text_length, xor_words_from, Bytes, little, spelled, number_at, xor_from, xor_of, all_zero, same_bytes, laid, over}
 
 -- ---- xor
 
+pub xor_from_snoc : (a : ℕ) (bs : List ℕ) (b : ℕ) → xor_from a (bs ++ (b ∷ [])) ≡ bit_xor (xor_from a bs) b
+unfolding xor_from
+xor_from_snoc a [] b = refl
+xor_from_snoc a (x ∷ bs) b = xor_from_snoc (bit_xor a x) bs b
+
+-- One byte more, as a loop takes it.
+pub xor_more : (s : List ℕ) (i : ℕ) → i < length s → xor_of (take (i + 1) s) ≡ bit_xor (xor_of (take i s)) (get_or s i 0)
+xor_more s i h = rw (add-one, take-suc s i 0) (xor_from_snoc 0 (take i s) (get_or s i 0))
+
+pub xor_all : (s : List ℕ) (i : ℕ) → length s ≤ i → xor_of (take i s) ≡ xor_of s
+xor_all s i h = ap xor_of (take_all i s h)
+
 -- ---- runs that a loop walks from the front
+
+-- The test of the first byte decides, and the rest is the same test.
+pub zero_more : (s : List ℕ) (i : ℕ) → i < length s → all_zero (drop i s) ≡ (eqb (get_or s i 0) 0 && all_zero (drop (i + 1) s))
+unfolding all_zero
+zero_more s i h = rw (add-one, drop-cons s i 0 h)
+
+pub zero_end : (s : List ℕ) (i : ℕ) → length s ≤ i → all_zero (drop i s) ≡ true
+unfolding all_zero
+zero_end s i h = rw (drop_of_length-le s h)
+
+pub same_more : (s t : List ℕ) (i : ℕ) → i < length s → i < length t
+    → same_bytes (drop i s) (drop i t) ≡ (eqb (get_or s i 0) (get_or t i 0) && same_bytes (drop (i + 1) s) (drop (i + 1) t))
+unfolding same_bytes
+same_more s t i hs ht = rw (add-one, drop-cons s i 0 hs, drop-cons t i 0 ht)
+
+pub same_end : (s t : List ℕ) (i : ℕ) → length s ≤ i → length t ≤ i → same_bytes (drop i s) (drop i t) ≡ true
+unfolding same_bytes
+same_end s t i hs ht = rw (drop_of_length-le s hs, drop_of_length-le t ht)
+
+-- Runs of different length are not the same.
+pub same_longer : (s t : List ℕ) → (length s ≡ length t → ⊥) → same_bytes s t ≡ false
+unfolding same_bytes
+same_longer [] [] h = absurd (h refl)
+same_longer [] (y ∷ t) h = refl
+same_longer (x ∷ s) [] h = refl
+same_longer (x ∷ s) (y ∷ t) h = ap (λ (r : Bool). eqb x y && r) (same_longer s t (λ e. h (ap suc e))) ∙ and-false (eqb x y)
 
 -- The test is right: it holds exactly of equal runs.
 pub same_refl : (s : List ℕ) → same_bytes s s ≡ true
@@ -63,6 +104,19 @@ laid_past d at s h =
 pub laid_nothing : (d : List ℕ) (at : ℕ) → laid d at [] ≡ d
 unfolding laid
 laid_nothing d at = let none : at + 0 ≡ at = omega arith in rw (take-nil (length d - at), none) (take-append-drop at d)
+
+-- What a copy of as many bytes as fit leaves.
+pub laid_paste : (d : List ℕ) (at : ℕ) (s : List ℕ) → at ≤ length d → laid d at s ≡ paste d at s (min (length s) (length d - at))
+unfolding laid
+laid_paste d at s h = go (dec_le (length s) (length d - at))
+  where
+    go : Dec (length s ≤ length d - at) → laid d at s ≡ paste d at s (min (length s) (length d - at))
+    go (yes k) = rw (min-eq_left k, take_all (length d - at) s k, take-length, append_assoc)
+    go (no k) =
+        let room : at + (length d - at) ≡ length d = omega arith in
+        let far : length d ≤ at + length s = omega arith in
+        let short : length d - at ≤ length s = omega arith in
+        rw (min-eq_right short, room, drop-length, drop_of_length-le d far, append-nil (take (length d - at) s), append-nil (take at d ++ take (length d - at) s))
 
 -- ---- a number and its spelling
 
@@ -174,6 +228,20 @@ over_over short front out h =
 
 -- ---- texts
 
+-- A byte that is not zero is one more of the text.
+pub text_more : (s : List ℕ) (i : ℕ) → i < length s → (get_or s i 0 ≡ 0 → ⊥) → text_length (drop i s) ≡ suc (text_length (drop (i + 1) s))
+unfolding text_length
+text_more s i h n = rw (add-one, drop-cons s i 0 h, ne_eqb (get_or s i 0) 0 n)
+
+-- The text ends at a zero, and at the end.
+pub text_zero : (s : List ℕ) (i : ℕ) → i < length s → get_or s i 0 ≡ 0 → text_length (drop i s) ≡ 0
+unfolding text_length
+text_zero s i h z = rw (drop-cons s i 0 h, z)
+
+pub text_end : (s : List ℕ) (i : ℕ) → length s ≤ i → text_length (drop i s) ≡ 0
+unfolding text_length
+text_end s i h = rw (drop_of_length-le s h)
+
 -- A text is not longer than its bytes.
 pub text_within : (s : List ℕ) → text_length s ≤ length s
 unfolding text_length
@@ -181,6 +249,36 @@ text_within [] = omega arith
 text_within (b ∷ s) = either_way (λ (n : ℕ). n ≤ suc (length s)) (eqb b 0) (λ e. omega arith) (λ e. omega (arith, text_within s))
 
 -- ---- words
+
+-- The first word of a run, and the rest of it.
+words_front : (a : ℕ) (s : List ℕ) → 4 ≤ length s → xor_words_from a s ≡ xor_words_from (bit_xor a (little (take 4 s))) (drop 4 s)
+unfolding xor_words_from
+words_front a [] h = absurd (omega arith)
+words_front a (b ∷ []) h = absurd (omega arith)
+words_front a (b ∷ c ∷ []) h = absurd (omega arith)
+words_front a (b ∷ c ∷ d ∷ []) h = absurd (omega arith)
+words_front a (b ∷ c ∷ d ∷ e ∷ s) h = refl
+
+-- One word more, as a loop takes it.
+pub words_more : (a : ℕ) (s : List ℕ) (i : ℕ) → i < length s / 4
+    → xor_words_from a (drop (i * 4) s) ≡ xor_words_from (bit_xor a (number_at 4 s (i * 4))) (drop ((i + 1) * 4) s)
+unfolding number_at
+words_more a s i h =
+    let next : i * 4 + 4 ≡ (i + 1) * 4 = omega arith in
+    words_front a (drop (i * 4) s) (rw length-drop (omega arith))
+    ∙ ap (xor_words_from (bit_xor a (little (take 4 (drop (i * 4) s))))) (drop-drop 4 (i * 4) s ∙ ap (λ (n : ℕ). drop n s) next)
+
+-- Where no word is left, the xor is what it was.
+pub words_end : (a : ℕ) (s : List ℕ) (i : ℕ) → length s / 4 ≤ i → xor_words_from a (drop (i * 4) s) ≡ a
+unfolding xor_words_from
+words_end a s i h = few (drop (i * 4) s) (rw length-drop (omega arith))
+  where
+    few : (l : List ℕ) → length l < 4 → xor_words_from a l ≡ a
+    few [] h = refl
+    few (b ∷ []) h = refl
+    few (b ∷ c ∷ []) h = refl
+    few (b ∷ c ∷ d ∷ []) h = refl
+    few (b ∷ c ∷ d ∷ e ∷ l) h = absurd (omega arith)
 
 -- ---- runs laid one behind the other
 

@@ -1,6 +1,6 @@
 -- The laws of Pieces.
 use Rattle.std.specs.Prelude.{ℕ, zero, suc, ◌+◌, ◌*◌, ◌-◌, ◌/◌, ◌≤◌, ◌<◌, List, [], ◌++◌, ◌≡◌, refl, length, take, drop}
-use Rattle.std.proofs.Common.{sym, ap, mod-eq_of_lt, ◌∙◌, div-mul-le_self, div-le_self, mul-le-mul_right, suc-mul, div-lt_iff_lt-mul, add-one, arith, eq-eqb, ne_eqb, length-drop, drop_of_length-le, take_all, take-add}
+use Rattle.std.proofs.Common.{sym, ap, mod-eq_of_lt, ◌∙◌, div-mul-le_self, div-le_self, mul-le-mul_right, suc-mul, div-lt_iff_lt-mul, le-div_iff_mul-le, add-one, arith, eq-eqb, ne_eqb, length-drop, drop_of_length-le, take_all, take-add}
 use Rattle.std.proofs.Math.Nat.{add-div_right, div-eq_of_lt, div-eq_of_lt-le, lt-div-mul-add}
 use Rattle.std.proofs.Math.Decide.{dec_lt, ℕ_discrete}
 use Rattle.std.proofs.Math.Seq.{take-length, take-nil}
@@ -210,10 +210,13 @@ take_more image size number one = rw (product_step number size one) (sym (take-a
 pub take_whole : (image : List ℕ) (size : ℕ) → 1 ≤ length image → 1 ≤ size → take (count_of (length image) size * size) image ≡ image
 take_whole image size h k = take_all (count_of (length image) size * size) image (counted (length image) size h k).over
 
--- Behind the last piece nothing is left.
+-- Behind the last piece nothing is left; up to it a piece begins within the image.
 pub piece_behind : (image : List ℕ) (size number : ℕ) → 1 ≤ size → length image / size < number - 1 → piece_of image size number ≡ []
 unfolding part_of
 piece_behind image size number some h =
     let far : length image < (number - 1) * size = (div-lt_iff_lt-mul some).0 h in
     let end : length image ≤ (number - 1) * size = omega (arith, far) in
     rw (drop_of_length-le image end) (take-nil size)
+
+pub piece_begins : (n size before : ℕ) → 1 ≤ size → before ≤ n / size → before * size ≤ n
+piece_begins n size before some h = (le-div_iff_mul-le some).0 h

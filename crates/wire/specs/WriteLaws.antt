@@ -6,7 +6,7 @@ use Rattle.std.specs.List.{sum_by}
 use Rattle.std.proofs.lemmas.List.Recursion.{is_sum_by}
 use Rattle.octets.specs.Octets.{spelled, xor_of, laid, over}
 use borrow.Author.Tests.{lt-ltb, le-ltb}
-use Rattle.octets.proofs.OctetsLaws.{over_nil, over_laid, over_put, over_sets, over_over, length_spelled}
+use Rattle.octets.proofs.OctetsLaws.{over_nil, over_laid, over_put, over_sets, over_over, length_over, length_spelled}
 use Rattle.wire.specs.Escape.{head_mark, escape_mark, tail_mark, is_mark, second_of, escape_of, escaped}
 use Rattle.refusals.specs.Refusals.{payload_too_long, no_room}
 use Rattle.wire.specs.Write.{write_of}
@@ -105,6 +105,9 @@ pub head_kept : (front out : List ℕ) → 0 < length out → over (head_mark �
 head_kept front out h = ap (over (head_mark ∷ front)) (head_first out h) ∙ over_over (head_mark ∷ []) (head_mark ∷ front) out (omega arith)
 
 module _ (s out : List ℕ) (fits : length (wire_form s) ≤ length out) where
+  pub lay_size : (i : ℕ) → length (over (begun s i) out) ≡ length out
+  lay_size i = length_over (begun s i) out (omega (arith, room_tail s i))
+
   -- The next content byte, stored at the next place.
   pub lay_more : (i : ℕ) → i < length s → sets (over (begun s i) out) (length (begun s i)) (escape_of (get_or s i 0)) ≡ over (begun s (i + 1)) out
   lay_more i h =
