@@ -9,6 +9,7 @@ pub fn store(words: &[u32], state: &mut [u8])
     ensures { state.new ≡ recorded words.now state.old }
 {
     if words.len() <= state.len() / 4 {
+        // By index. Tried with chunks_exact_mut and zip: its contract does not say what the slice ends as.
         for (i, &word) in words.iter().enumerate() {
             octets::put_four(state, i * 4, word);
         }

@@ -11,6 +11,7 @@ pub fn show(bytes: &[u8], out: &mut [u8]) -> usize
     ensures within { Front result out.new }
 {
     let shown = octets::part(bytes, 0, out.len() / 2);
+    // By index. Tried with chunks_exact_mut and zip: its contract does not say what the slice ends as.
     for (i, byte) in shown.iter().enumerate() {
         out[i * 2] = digit(byte / 16);
         out[i * 2 + 1] = digit(byte % 16);
