@@ -7,7 +7,8 @@ use std::io;
 use std::rt::Files;
 use ubf::{Block, Nth};
 
-// Each program has such a main: a common one that takes a closure would be no plainer.
+// Each program has such a main: a common one would be a public call that only runs what it is handed, of which no contract could say
+// anything.
 fn main(rt: HostRuntime) {
     let err = rt.stderr();
     match console::arguments(&rt) {
@@ -30,7 +31,8 @@ fn blocks(
     }
 }
 
-// Reads the whole file, if it is not too large, and lists it.
+// Reads the whole file, if it is not too large, and lists it. A file that is too large is an answer in this program's own words, on
+// standard output; why the system reads none goes to standard error.
 fn list_file(
     rt: &(impl Files + Print + AllocGlobal),
     err: &impl Print,

@@ -1,5 +1,10 @@
 // Whole files: read to their end, or written so that the name never stands for half of one. Names are bytes as the system gives them:
 // one that is no text is shown as it is.
+ghost use Rattle.std.specs.Prelude.{◌≡◌, ◌≤◌, ◌<◌, length, Err, IfOk, OnOk, IsUtf8, vec_len};
+ghost use Rattle.console.specs.declared.files.FileError.TheVariants.{LongName};
+ghost use Rattle.console.specs.declared.files.Unwritten.TheVariants.{Whole};
+ghost use Rattle.console.specs.Console.{opened_by, Writable};
+
 use crate::show::fail;
 use std::alloc::AllocError;
 use std::error::Error;
@@ -20,7 +25,9 @@ pub const FLASH: usize = 262144;
 
 // What is longer than any path opens nothing, as no name does. It stays a slice, and no Option: programs go on to open the empty name, and
 // say why the system has none.
-pub fn openable(path: &[u8]) -> &[u8] {
+pub fn openable(path: &[u8]) -> &[u8]
+    ensures { result.now ≡ opened_by path.now }
+{
     if path.len() <= PATH { path } else { b"" }
 }
 
@@ -89,7 +96,10 @@ pub fn read_file<R: Files + AllocGlobal>(
     rt: &R,
     path: &[u8],
     most: usize,
-) -> Result<Vec<u8>, FileError> {
+) -> Result<Vec<u8>, FileError>
+    ensures most { IfOk result (λ bytes. vec_len bytes ≤ most) }
+    ensures text { OnOk result (IsUtf8 path.now) }
+{
     let file = File::open(rt, str::from_utf8(path)?)?;
     let mut bytes = Vec::new(rt.alloc());
     file.take((most as u64).saturating_add(1))
@@ -115,6 +125,7 @@ pub enum Unwritten {
 
 impl Unwritten {
     // Says so on standard error. The path goes there as bytes, and in no Display: it need not be text.
+    // No contract: what it does is outside, and tested.
     pub fn tell(&self, err: &impl Print, path: &[u8]) {
         match self {
             Unwritten::Whole(why) => fail(err, path, why),
@@ -132,7 +143,10 @@ pub fn write_file(
     rt: &(impl Files + AllocGlobal),
     path: &[u8],
     bytes: &[u8],
-) -> Result<(), Unwritten> {
+) -> Result<(), Unwritten>
+    ensures ok { OnOk result (Writable path.now) }
+    ensures long { 4090 < length path.now → result ≡ Err (Whole LongName) }
+{
     if path.len() > WRITTEN_PATH {
         return Err(Unwritten::Whole(FileError::LongName));
     }
@@ -164,4 +178,48 @@ fn whole_failed(why: impl Into<FileError>) -> Unwritten {
 fn keep<F: Write + OpenFile + Drop>(mut file: F, bytes: &[u8]) -> io::Result<()> {
     file.write_all(bytes)?;
     file.sync_all()
+}
+
+#[cfg(test)]
+mod tests {
+    use super::*;
+    use std::test::Fail;
+
+    const NAME: &str = "console_test.bin";
+
+    #[test]
+    fn what_is_written_is_read(rt: HostRuntime) -> Result<(), Fail> {
+        let name = NAME.as_bytes();
+        for bytes in [b"longer".as_slice(), b"", b"short"] {
+            assert!(rt; write_file(&rt, name, bytes).is_ok());
+            assert_eq!(rt; read_file(&rt, name, 6)?.as_slice(), bytes);
+        }
+        // As many bytes as are taken, and one more.
+        assert!(rt; read_file(&rt, name, 5).is_ok());
+        assert!(rt; matches!(read_file(&rt, name, 4), Err(FileError::Larger)));
+        // The part has taken the name.
+        assert!(rt; fs::metadata(&rt, "console_test.bin.part").is_err());
+        fs::remove_file(&rt, NAME)?;
+        assert!(rt; matches!(read_file(&rt, name, 5), Err(FileError::System(_))));
+        Ok(())
+    }
+
+    #[test]
+    fn what_fails_leaves_no_part(rt: HostRuntime) -> Result<(), Fail> {
+        // A folder that is not there has no room for the part; one that is there does not give its name to a file.
+        let missing = write_file(&rt, b"console_test_missing/a", b"bytes");
+        assert!(rt; matches!(missing, Err(Unwritten::Part(FileError::System(_)))));
+        fs::create_dir(&rt, "console_test_folder")?;
+        let taken = write_file(&rt, b"console_test_folder", b"bytes");
+        assert!(rt; matches!(taken, Err(Unwritten::Whole(FileError::System(_)))));
+        assert!(rt; fs::metadata(&rt, "console_test_folder.part").is_err());
+        fs::remove_dir(&rt, "console_test_folder")?;
+        assert!(rt;
+            matches!(
+                write_file(&rt, b"\xff", b""),
+                Err(Unwritten::Part(FileError::NoText))
+            )
+        );
+        Ok(())
+    }
 }

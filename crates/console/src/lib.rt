@@ -1,5 +1,6 @@
 // What programs print for people, and whole files in and out. No contract can speak of what an operating system reads or writes, so
-// these calls are proved to be safe and to end, and what they do is tested. What they print goes where Print writes: a runtime's
+// these calls are proved to be safe and to end, and what they do is tested; contracts say which texts are numbers, which paths are
+// opened, and what holds of a file and its path where it was read or written. What they print goes where Print writes: a runtime's
 // standard output, or its standard error. A write that fails is let be, since nothing is left to say so on.
 #![tactic(auto)]
 

@@ -1,5 +1,7 @@
 // The words that a program was started with, and numbers among them.
-ghost use Rattle.std.specs.Prelude.{◌≤◌};
+ghost use Rattle.std.specs.Prelude.{◌≡◌, ◌≤◌};
+ghost use Rattle.std.specs.Str.{all_ascii_digits};
+ghost use Rattle.console.specs.Console.{number_in};
 
 use std::alloc::AllocError;
 use std::env::FillError;
@@ -14,7 +16,7 @@ const DIGITS: usize = 16;
 const LARGEST: u64 = 4294967295;
 
 // All arguments, the program's own name first. They are bytes as the system gives them, since a name need not be text:
-// std's env::args refuses one that is none, so they are asked for one by one.
+// std's env::args refuses one that is none, so they are asked for one by one. No contract: what it does is outside, and tested.
 pub fn arguments<R: Env + AllocGlobal>(rt: &R) -> Result<Vec<Vec<u8>>, AllocError> {
     let mut all = Vec::new(rt.alloc());
     for i in 0..usize::MAX {
@@ -49,19 +51,62 @@ fn argument<R: Env + AllocGlobal>(
 }
 
 // A number in decimal digits; None where it is no such number or larger than any that is taken.
-pub fn number_of(text: &[u8]) -> Option<u64> {
+pub fn number_of(text: &[u8]) -> Option<u64>
+    ensures { result ≡ number_in text.now }
+{
     // Str's own parse takes a sign too.
-    if text.len() > DIGITS || !text.iter().all(|byte| byte.is_ascii_digit()) {
+    if text.len() > DIGITS || !are_digits(text) {
         return None;
     }
     let value = str::from_utf8(text).ok()?.parse::<u64>().ok()?;
     (value / 10 <= LARGEST).then_some(value)
 }
 
+fn are_digits(text: &[u8]) -> bool
+    ensures { result ≡ all_ascii_digits text.now }
+{
+    text.iter().all(|byte| byte.is_ascii_digit())
+}
+
 #[cfg(test)]
 mod tests {
     use super::*;
     use std::test::Fail;
+
+    // A runtime that was started with these words.
+    #[derive(Drop)]
+    struct Given<'a>(&'a [&'a [u8]]);
+
+    impl Env for Given<'_> {
+        fn arg(&self, i: usize, buf: &mut [u8]) -> Result<usize, FillError> {
+            let word = self.0.get(i).ok_or(FillError::NotPresent)?;
+            let room = buf.get_mut(..word.len()).ok_or(FillError::TooLong)?;
+            room.copy_from_slice(word);
+            Ok(word.len())
+        }
+
+        fn var(&self, _name: &str, _buf: &mut [u8]) -> Result<usize, FillError> {
+            Err(FillError::NotPresent)
+        }
+
+        fn var_at(&self, _i: usize, _buf: &mut [u8]) -> Result<usize, FillError> {
+            Err(FillError::NotPresent)
+        }
+    }
+
+    #[test]
+    fn arguments_come_whole_and_in_order(rt: HostRuntime) -> Result<(), Fail> {
+        // One fills the first room, and one is longer than it is doubled once.
+        let given = [b"name".as_slice(), b"", &[0xFF; 256], &[b'a'; 600]];
+        let words = arguments(&(Given(&given), rt.alloc()))?;
+        assert_eq!(rt; words.len(), given.len());
+        for (word, wanted) in words.iter().zip(given) {
+            assert_eq!(rt; word.as_slice(), wanted);
+        }
+        // Of the test's own.
+        assert!(rt; arguments(&rt)?.first().is_some_and(|name| !name.is_empty()));
+        Ok(())
+    }
 
     #[test]
     fn numbers_are_digits_alone(rt: HostRuntime) -> Result<(), Fail> {

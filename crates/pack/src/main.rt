@@ -41,7 +41,8 @@ impl From<Refusal> for Unpacked {
     }
 }
 
-// Each program has such a main: a common one that takes a closure would be no plainer.
+// Each program has such a main: a common one would be a public call that only runs what it is handed, of which no contract could say
+// anything.
 fn main(rt: HostRuntime) {
     let err = rt.stderr();
     match console::arguments(&rt) {
@@ -82,7 +83,8 @@ fn usage(rt: &impl Print) -> io::Result<()> {
     rt.println("TYPE is 1, 2 or 3; START is where the image starts in the block, 208 or more")
 }
 
-// Reads the image, if it is not too large, and packs it.
+// Reads the image, if it is not too large, and packs it. An image that is too large is an answer in this program's own words, on standard
+// output; why the system reads none goes to standard error.
 fn pack_file(
     rt: &(impl Files + Print + AllocGlobal),
     err: &impl Print,

@@ -1,0 +1,2 @@
+-- Which texts are numbers, and which paths are opened and written to.
+pub mod Console
