@@ -11,6 +11,7 @@ fn main(rt: HostRuntime) {
 
 fn bench(rt: &impl Print) -> io::Result<()> {
     rt.println("bench")?;
+    // Arrays of the sizes that the examples name: a Vec would add a failure.
     try_write(rt, &[0x00; 1030], &mut [0u8; 2072])?;
     try_write(rt, &[0x00; 1031], &mut [0u8; 2072])?;
     try_write(rt, &[0xDB; 1030], &mut [0u8; 2072])?;

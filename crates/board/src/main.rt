@@ -19,7 +19,8 @@ struct Wish<'a> {
     opened: bool,
 }
 
-// Each program has such a main: a common one that takes a closure would be no plainer.
+// Each program has such a main: a common one would be a public call that only runs what it is handed, of which no contract could say
+// anything.
 fn main(rt: HostRuntime) {
     let err = rt.stderr();
     match console::arguments(&rt) {
@@ -55,6 +56,7 @@ fn serve<R: Files + Input + Print + AllocGlobal>(rt: &R, err: &impl Print, wish:
     };
     match serve_file(rt, err, wish, cable) {
         Ok(()) => (),
+        // In the board's own words: of a flash, with its size and no path.
         Err(FileError::Larger) => say::too_large(err),
         Err(why) => console::fail(err, wish.flash, &why),
     }

@@ -106,6 +106,7 @@ impl<'a, R: Input + Print, E: Print, F: Read + Write + Seek> Station<'a, R, E, F
         Ok(())
     }
 
+    // This and `wait` differ in the call alone: a closure over the call would borrow the same flash and reply, so it would be no plainer.
     fn hear(&mut self, byte: u8) -> Result<(), Stop> {
         let mut reply = [0u8; SMALLEST_REPLY];
         let post = self.post;

@@ -15,12 +15,14 @@ use verdict::Judged;
 #[derive(Drop)]
 struct Desk<'a, P: Print> {
     rt: &'a P,
+    // A flash has one size, so an array says it; so does the copy from before.
     flash: [u8; console::FLASH],
     post: Post,
     noise: Noise,
 }
 
-// Each program has such a main: a common one that takes a closure would be no plainer.
+// Each program has such a main: a common one would be a public call that only runs what it is handed, of which no contract could say
+// anything.
 fn main(rt: HostRuntime) {
     let err = rt.stderr();
     match console::arguments(&rt) {
@@ -51,7 +53,8 @@ fn noise_of(seed: &[u8], rate: &[u8]) -> Option<Noise> {
     Some(Noise::sown(seed, rate))
 }
 
-// Reads the whole file, if it is not too large, and loads it.
+// Reads the whole file, if it is not too large, and loads it. A file that is too large is an answer in this program's own words, on
+// standard output; why the system reads none goes to standard error.
 fn load_file(rt: &(impl Files + Print + AllocGlobal), err: &impl Print, path: &[u8], noise: Noise) {
     match console::read_file(rt, path, console::FILE) {
         Ok(file) => load_blocks(rt, &file, noise),

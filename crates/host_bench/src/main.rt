@@ -4,7 +4,8 @@
 mod play;
 mod story;
 
-// The most bytes that can be cut into pieces of 4: document 01's example has so many zeros.
+// The most bytes that can be cut into pieces of 4: document 01's example has so many zeros. They stand in an array, as its size is known: a
+// Vec would add a failure.
 pub(crate) const ZEROS: usize = 262140;
 
 fn main(rt: HostRuntime) {

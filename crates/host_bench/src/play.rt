@@ -11,7 +11,7 @@ const SHORT: &[u8] = &[
     0x11, 0x12, 0x13, 0x14, 0x15, 0x16, 0x17, 0x18, 0xDB, 0x22, 0x23, 0x24, 0x25, 0x26, 0x27, 0x28,
 ];
 
-// The most bytes of output that are lent.
+// The most bytes of output that are lent. Each room is an array of a known size, since a Vec would add a failure.
 const ROOM: usize = 64;
 
 // The session, what is lent to it, and where the lines go.
@@ -118,7 +118,7 @@ impl Wish {
     }
 }
 
-// So much of the output as is lent.
+// So much of the output as is lent: the cases lend rooms of several sizes, and an array has one, so they are parts of the largest.
 fn lent(bytes: &mut [u8; ROOM], room: usize) -> &mut [u8] {
     &mut bytes[..room.min(ROOM)]
 }

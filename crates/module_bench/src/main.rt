@@ -12,7 +12,7 @@ fn main(rt: HostRuntime) {
     let _ = println!(rt;
         "module_bench\n> command and payload of a frame, or time   < reply on the wire   = session"
     );
-    // As an erased one.
+    // As an erased one. A flash has one size, so an array says it.
     let mut flash = [0xFFu8; FLASH];
     play::play(&rt, &mut flash);
 }

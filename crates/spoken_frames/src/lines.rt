@@ -29,6 +29,7 @@ pub struct Lines<'a, P: Print> {
     pub places: usize,
 }
 
+// These calls only print, so no contract speaks of them.
 impl<P: Print> Lines<'_, P> {
     // The head of a case.
     pub fn title(self, words: &str) {
