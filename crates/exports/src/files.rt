@@ -27,7 +27,7 @@ pub struct Answered {
     pub count: usize,
 }
 
-// The numbers of an answer, here and in numbers_in: calls and no From, as edits hold them by these names.
+// The numbers of an answer, here and in numbers_in: each is used once, so a From would be no plainer.
 fn numbers_of(nth: Nth) -> Answered
     ensures { result ≡ nth_flat nth }
 {

@@ -1,4 +1,5 @@
-// Bytes as the papers print them: two capital hex digits each, in a buffer that is lent. The programs print by formats; this is for who has none.
+// Bytes as the papers print them: two capital hex digits each, in a buffer that is lent. The programs print by formats; this stays for who has
+// none: README names it, and edits hold it.
 #![tactic(auto)]
 
 ghost use Rattle.std.specs.Prelude.{◌≡◌, ◌<◌};

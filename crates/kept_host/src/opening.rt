@@ -17,7 +17,7 @@ pub struct Begun {
 }
 
 // Opens a session: 2 and nothing written for bytes without room; else its record and its answer. The nine parameters are those of C's
-// zrn_host_open, in its order.
+// zrn_host_open, in its order. kept_caller's differs in a constant and one call: one over both would be no plainer.
 #[tactic(auto, unfolding(crate::specs::Kept::kept_opening))]
 pub fn open(
     state: &mut [u8],

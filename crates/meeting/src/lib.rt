@@ -192,6 +192,7 @@ impl Meeting<'_> {
     }
 }
 
+// As kept_module's count_of, which stands with the calls for C: a simulated line has no need of those.
 fn replied(answer: module::Answer) -> usize {
     match answer {
         module::Answer::Sent(n) => n,

@@ -2,6 +2,7 @@
 use Rattle.std.specs.Prelude.{Bool, true, false, List, [], ◌∷◌, ◌≡◌, refl, ℕ}
 use Rattle.std.proofs.lemmas.Bool.{false≢true}
 use Rattle.std.proofs.Common.{ap, ◌∙◌}
+use Rattle.refusals.specs.declared.Refusal.{Refusal}
 use Rattle.module_model.specs.Answers.{is_refused}
 use Rattle.module_promises.specs.Runs.{Given, Exchange, exchange, next_of, run_of, run_by, carried, carried_by}
 use Rattle.module_promises.specs.Promises.{NobodyElse, taken, offered, CleanAmongRefused}
@@ -12,14 +13,17 @@ use Rattle.module_model.specs.declared.events.Answer.{Answer}
 use Rattle.module_model.specs.declared.events.Answer.TheVariants.{Nothing, Sent, Refused}
 use Rattle.module.specs.declared.session.Session.{Session}
 
+-- A refused answer has a refusal.
+refused_number : (a : Answer) → is_refused a ≡ true → (n : Refusal) × (a ≡ Refused n)
+refused_number Nothing h = absurd (false≢true h)
+refused_number (Sent n) h = absurd (false≢true h)
+refused_number (Refused n) h = (n, refl)
+
 -- A refused step leaves the session.
 refused_stays : (s : Session) (g : Given) → is_refused (exchange s g).left.answer ≡ true → next_of s g ≡ s
-refused_stays s g h = go (exchange s g).left.answer refl h
-  where
-    go : (a : Answer) → (exchange s g).left.answer ≡ a → is_refused a ≡ true → next_of s g ≡ s
-    go Nothing e r = absurd (false≢true r)
-    go (Sent n) e r = absurd (false≢true r)
-    go (Refused n) e r = ap (λ (l : Left). l.session) (refused_leaves s g n e)
+refused_stays s g h =
+    let why = refused_number (exchange s g).left.answer h in
+    ap (λ (l : Left). l.session) (refused_leaves s g why.0 why.1)
 
 -- What is taken of a run is carried from one step that is taken to the next.
 taken_carried : (s : Session) (flash : List ℕ) (gs : List Given) → NobodyElse flash (run_of s gs)

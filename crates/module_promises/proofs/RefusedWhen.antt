@@ -42,8 +42,8 @@ way_of s g =
     (λ f. other room (eqb-false (length g.flash) s.flash f) refl))
 
 -- Two refusals that are answered alike are one.
-same_refusal : (n m : Refusal) → Refused n ≡ Refused m → n ≡ m
-same_refusal n m e = cc
+same_number : (n m : Refusal) → Refused n ≡ Refused m → n ≡ m
+same_number n m e = cc
 
 -- What is not refused is not refused with any of them.
 never : (a : Answer) (n : Refusal) → is_refused a ≡ false → a ≡ Refused n → ⊥
@@ -56,16 +56,16 @@ refused_exactly s g = go (exchange s g).left.answer refl (way_of s g)
     go a at (small short e) = record {
       two = λ _. short;
       two_when = λ _. at ∙ e;
-      three = λ r. let same = same_refusal no_room wrong_length (sym e ∙ sym at ∙ r) in cc;
+      three = λ r. let same = same_number no_room wrong_length (sym e ∙ sym at ∙ r) in cc;
       three_when = λ room _. absurd (omega (arith, short, room));
-      no_other = λ n r. inl (same_refusal n no_room (sym r ∙ at ∙ e));
+      no_other = λ n r. inl (same_number n no_room (sym r ∙ at ∙ e));
     }
     go a at (other room differs e) = record {
-      two = λ r. let same = same_refusal wrong_length no_room (sym e ∙ sym at ∙ r) in cc;
+      two = λ r. let same = same_number wrong_length no_room (sym e ∙ sym at ∙ r) in cc;
       two_when = λ short. absurd (omega (arith, short, room));
       three = λ _. (room, differs);
       three_when = λ _ _. at ∙ e;
-      no_other = λ n r. inr (same_refusal n wrong_length (sym r ∙ at ∙ e));
+      no_other = λ n r. inr (same_number n wrong_length (sym r ∙ at ∙ e));
     }
     go a at (taken room same free) = record {
       two = λ r. absurd (never a no_room free (sym at ∙ r));

@@ -298,13 +298,19 @@ outside step lent d p i bd bp heard differs away promise =
 abbrev shifting : Step
 shifting = step_by writes_one_on
 
+-- The transfer of four bytes in a flash of eight.
+abbrev w0 : Exchange
+w0 = exchange_by shifting (opened flash8) (given flash8 declares)
+
+shifting_heard : heard_of w0 ≡ parameters_reply largest_packet accepted ∷ []
+unfolding opening_of takes alive openable kind_of fits_flash number_at little rules.decide_of rules.parameters_decision rules.kind_decision
+shifting_heard = heard_performed (opened flash8) (writes_one_on Ready 2 declares.payload flash8) declares.payload flash8 declares.reply
+
 pub writes_one_on_refuted : OnlyInRangeOf shifting → ⊥
 unfolding run_by after_by opening_of takes alive openable kind_of fits_flash count_of number_at little laid rules.decide_of rules.parameters_decision
     rules.kind_decision rules.packet_decision rules.well_formed rules.numbers_in rules.first_decision rules.cuts_into rules.phase_at
 writes_one_on_refuted =
-    outside shifting flash8 declares sends 4 tiny_bytes.0 tiny_bytes.1
-    (heard_performed (opened flash8) (writes_one_on Ready 2 declares.payload flash8) declares.payload flash8 declares.reply)
-    (λ (e : ◌≡◌ {A = ℕ} 4 9). omega (arith, e))
+    outside shifting flash8 declares sends 4 tiny_bytes.0 tiny_bytes.1 shifting_heard (λ (e : ◌≡◌ {A = ℕ} 4 9). omega (arith, e))
     (λ _ (h : 4 < 4). omega (arith, h))
 
 -- ---- a repeat is written behind the last packet
@@ -363,11 +369,16 @@ astray_bytes : Bytes declares1.payload × Bytes byte1.payload
 unfolding spelled little
 astray_bytes = (bytes_spelled 10 (little declares1.payload), bytes_spelled 7 (little byte1.payload))
 
+abbrev u0 : Exchange
+u0 = exchange_by astray (opened flash1) (given flash1 declares1)
+
+astray_heard : heard_of u0 ≡ parameters_reply largest_packet accepted ∷ []
+unfolding opening_of takes alive openable kind_of fits_flash number_at little rules.decide_of rules.parameters_decision rules.kind_decision
+astray_heard = heard_performed (opened flash1) (writes_at_address Ready 2 declares1.payload flash1) declares1.payload flash1 declares1.reply
+
 pub writes_at_address_refuted : OnlyInRangeOf astray → ⊥
 unfolding run_by after_by opening_of takes alive openable kind_of fits_flash count_of number_at little laid rules.decide_of rules.parameters_decision
     rules.kind_decision rules.packet_decision rules.well_formed rules.numbers_in rules.first_decision rules.cuts_into rules.phase_at
 writes_at_address_refuted =
-    outside astray flash1 declares1 byte1 0 astray_bytes.0 astray_bytes.1
-    (heard_performed (opened flash1) (writes_at_address Ready 2 declares1.payload flash1) declares1.payload flash1 declares1.reply)
-    (λ (e : ◌≡◌ {A = ℕ} 5 9). omega (arith, e))
+    outside astray flash1 declares1 byte1 0 astray_bytes.0 astray_bytes.1 astray_heard (λ (e : ◌≡◌ {A = ℕ} 5 9). omega (arith, e))
     (λ (h : 0x8000 ≤ 0) _. omega (arith, h))
