@@ -1,5 +1,5 @@
 // The words that a program was started with, and numbers among them.
-ghost use Rattle.std.specs.Prelude.{◌≡◌, ◌≤◌};
+ghost use Rattle.std.specs.Prelude.{◌≡◌};
 ghost use Rattle.std.specs.Str.{all_ascii_digits};
 ghost use Rattle.console.specs.Console.{number_in};
 
@@ -33,9 +33,7 @@ fn argument<R: Env + AllocGlobal>(
     rt: &R,
     i: usize,
     room: usize,
-) -> Result<Option<Vec<u8>>, AllocError>
-    requires { 1 ≤ room }
-{
+) -> Result<Option<Vec<u8>>, AllocError> {
     let mut bytes = vec![in rt.alloc(); 0u8; room]?;
     match rt.arg(i, &mut bytes) {
         Ok(n) => {
@@ -45,7 +43,7 @@ fn argument<R: Env + AllocGlobal>(
         Err(FillError::NotPresent) => Ok(None),
         Err(FillError::TooLong) => {
             drop(bytes);
-            argument(rt, i, room.saturating_mul(2))
+            argument(rt, i, room.saturating_mul(2).max(ROOM))
         }
     }
 }
