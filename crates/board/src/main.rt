@@ -19,11 +19,14 @@ struct Wish<'a> {
     opened: bool,
 }
 
+// Its own name and three more, and one that would be too many.
+const WORDS: usize = 5;
+
 // Each program has such a main: a common one would be a public call that only runs what it is handed, of which no contract could say
 // anything.
 fn main(rt: HostRuntime) {
     let err = rt.stderr();
-    match console::arguments(&rt) {
+    match console::arguments(&rt, WORDS) {
         Ok(words) => match wish_of(&words) {
             Some(wish) => serve(&rt, &err, wish),
             None => say::usage(&err),

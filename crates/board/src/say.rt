@@ -2,7 +2,7 @@
 use crate::keep::Unkept;
 use crate::reply::Refusing;
 use crate::station::{Log, Stop};
-use console::{Refused, SystemWords};
+use console::{Hex, Refused, SystemWords};
 use posts::{Stand, View};
 use refusals::Refusal;
 
@@ -73,7 +73,12 @@ pub fn refusal(err: &impl Print, refusal: Refusal) {
 
 pub fn refusing(err: &impl Print, said: Refusing) {
     let Refusing { command, ack } = said;
-    let _ = println!(err; "board: command {command:02X} refused with ACK {ack:02X}");
+    let (command, ack) = ([command], [ack]);
+    let _ = println!(err;
+        "board: command {} refused with ACK {}",
+        Hex(&command),
+        Hex(&ack)
+    );
 }
 
 // Why the board stops; at the end of the input there is nothing to say.

@@ -8,7 +8,7 @@ use Rattle.reader.specs.declared.steps.Heard.TheVariants.{Nothing, Frame, Droppe
 use Rattle.module.specs.Step.{Left, step_of}
 use Rattle.module.specs.declared.session.Session.{Session}
 use Rattle.module_model.specs.declared.events.Event.TheVariants as event
-use Rattle.module_model.specs.declared.events.Answer.{Answer}
+use Rattle.module_model.specs.Answers.{Answer}
 use Rattle.module_model.specs.declared.events.Answer.TheVariants as answer
 use Rattle.board_end.specs.declared.board.Board.{Board}
 use Rattle.board_end.specs.declared.board.BoardStep.{BoardStep}

@@ -102,9 +102,13 @@ pub fn read_file<R: Files + AllocGlobal>(
 {
     let file = File::open(rt, str::from_utf8(path)?)?;
     let mut bytes = Vec::new(rt.alloc());
-    file.take((most as u64).saturating_add(1))
-        .read_to_end(&mut bytes)?;
+    let mut taken = file.take((most as u64).saturating_add(1));
+    taken.read_to_end(&mut bytes)?;
     if bytes.len() > most {
+        return Err(FileError::Larger);
+    }
+    // A terminal may go on behind its end: one read more tells.
+    if bytes.len() < most && taken.read(&mut [0u8; 1])? > 0 {
         return Err(FileError::Larger);
     }
     Ok(bytes)

@@ -12,5 +12,5 @@ pub use files::{
     FILE, FLASH, FileError, PATH, SystemWords, Unwritten, open_update, openable, read_file,
     write_file,
 };
-pub use show::{Passed, Placed, Refused, Row, Text, fail};
+pub use show::{Hex, Passed, Placed, Refused, Row, Text, Word, fail};
 pub use startup::{arguments, number_of};

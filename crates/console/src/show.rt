@@ -9,6 +9,34 @@ pub fn fail(to: &impl Print, what: &[u8], why: &(impl fmt::Display + Drop)) {
     let _ = println!(to; ": {why}");
 }
 
+// Bytes in capital hex digits, as hex_digits puts them.
+#[derive(Clone, Copy)]
+pub struct Hex<'a>(pub &'a [u8]);
+
+impl fmt::Display for Hex<'_> {
+    fn fmt<W: fmt::Write>(&self, f: &mut fmt::Formatter<W>) -> fmt::Result {
+        // A fixed room for each piece: a Display is given no allocator.
+        let mut room = [0u8; 64];
+        for piece in self.0.chunks(32) {
+            let n = hex_digits::show(piece, &mut room);
+            for &digit in &room[..n] {
+                f.write_char(char::from(digit))?;
+            }
+        }
+        Ok(())
+    }
+}
+
+// A number of four bytes in hex, high byte first, as people write it.
+#[derive(Clone, Copy)]
+pub struct Word(pub u32);
+
+impl fmt::Display for Word {
+    fn fmt<W: fmt::Write>(&self, f: &mut fmt::Formatter<W>) -> fmt::Result {
+        write!(f, "0x{}", Hex(&u32::to_be_bytes(self.0)))
+    }
+}
+
 // A refusal's number and its words.
 #[derive(Clone, Copy)]
 pub struct Refused(pub Refusal);
@@ -33,7 +61,7 @@ impl fmt::Display for Passed {
             _ => "State",
         };
         let refused = Refused(self.refusal);
-        write!(f, "{refused}, {what} {:02X} passed on", self.passed)
+        write!(f, "{refused}, {what} {} passed on", Hex(&[self.passed]))
     }
 }
 
@@ -49,11 +77,8 @@ impl fmt::Display for Placed {
             start,
             ..
         } = self.0;
-        let base = kinds::base_of(kind);
-        write!(
-            f,
-            "{kind}, address 0x{base:08X}, length {extent}, start {start}"
-        )
+        let base = Word(kinds::base_of(kind));
+        write!(f, "{kind}, address {base}, length {extent}, start {start}")
     }
 }
 
@@ -66,8 +91,8 @@ pub struct Row<'a> {
 
 impl fmt::Display for Row<'_> {
     fn fmt<W: fmt::Write>(&self, f: &mut fmt::Formatter<W>) -> fmt::Result {
-        for byte in self.bytes {
-            write!(f, " {byte:02X}")?;
+        for &byte in self.bytes {
+            write!(f, " {}", Hex(&[byte]))?;
         }
         for _ in self.bytes.len()..self.places {
             f.write_str("   ")?;

@@ -15,11 +15,12 @@ const DIGITS: usize = 16;
 // A number of which all but the last digit are more is not taken.
 const LARGEST: u64 = 4294967295;
 
-// All arguments, the program's own name first. They are bytes as the system gives them, since a name need not be text:
+// The arguments, the program's own name first, but no more than so many: a program asks for one more than it takes, and sees that there
+// are too many without room for all. They are bytes as the system gives them, since a name need not be text:
 // std's env::args refuses one that is none, so they are asked for one by one. No contract: what it does is outside, and tested.
-pub fn arguments<R: Env + AllocGlobal>(rt: &R) -> Result<Vec<Vec<u8>>, AllocError> {
+pub fn arguments<R: Env + AllocGlobal>(rt: &R, most: usize) -> Result<Vec<Vec<u8>>, AllocError> {
     let mut all = Vec::new(rt.alloc());
-    for i in 0..usize::MAX {
+    for i in 0..most {
         match argument(rt, i, ROOM)? {
             Some(bytes) => all.push(bytes)?,
             None => break,
@@ -96,13 +97,19 @@ mod tests {
     fn arguments_come_whole_and_in_order(rt: HostRuntime) -> Result<(), Fail> {
         // One fills the first room, and one is longer than it is doubled once.
         let given = [b"name".as_slice(), b"", &[0xFF; 256], &[b'a'; 600]];
-        let words = arguments(&(Given(&given), rt.alloc()))?;
+        let words = arguments(&(Given(&given), rt.alloc()), 9)?;
         assert_eq!(rt; words.len(), given.len());
         for (word, wanted) in words.iter().zip(given) {
             assert_eq!(rt; word.as_slice(), wanted);
         }
         // Of the test's own.
-        assert!(rt; arguments(&rt)?.first().is_some_and(|name| !name.is_empty()));
+        assert!(rt;
+            arguments(&rt, 1)?
+                .first()
+                .is_some_and(|name| !name.is_empty())
+        );
+        // No more than are asked for.
+        assert_eq!(rt; arguments(&(Given(&given), rt.alloc()), 3)?.len(), 3);
         Ok(())
     }
 

@@ -2,7 +2,7 @@
 use Rattle.kinds.specs.declared.Kind.{Kind}
 use Rattle.refusals.specs.declared.Refusal.{Refusal}
 use Rattle.std.specs.Prelude.{ℕ, Bool, true, false, List, ◌≡◌, refl, length, Err, None, Ok, Option, Result, Some}
-use Rattle.refusals.specs.Written.{Out, number_in, count_in}
+use Rattle.refusals.specs.Written.{Out, numbered, number_in, count_in}
 use Rattle.kinds.specs.Kinds.{base_of}
 use Rattle.ubf_model.specs.Answers.{Told, block_told, none_told, found_told, nth_told}
 use Rattle.ubf_model.specs.declared.block.Block.{Block}
@@ -16,7 +16,7 @@ pub record WrittenFlat : Type 0 where
   pub output : List ℕ
 
 abbrev pub written_flat : Out → WrittenFlat
-written_flat o = record { answer = number_in o.answer; count = count_in o.answer; output = o.output }
+written_flat o = record { answer = number_in (numbered o.answer); count = count_in o.answer; output = o.output }
 
 -- A part of the caller's bytes: where it begins, and how many bytes it has.
 pub record Stretch : Type 0 where

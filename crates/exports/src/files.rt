@@ -7,7 +7,7 @@ ghost use Rattle.ubf_model.specs.Pack.{gathered, pack_of};
 ghost use Rattle.ubf_model.specs.Walk.{block_at};
 ghost use Rattle.exports.specs.Flat.{written_flat, stretch_of, with_block, without_block, found_flat, nth_flat, address_flat};
 
-use crate::frames::{count_of, number_of};
+use crate::frames::{count_of, number_of, numbered};
 use refusals::Refusal;
 use ubf::{Block, Nth, Numbers};
 use ubf_model::{
@@ -220,7 +220,7 @@ pub extern "C" fn zrn_ubf_write(
     };
     let written = ubf::write(numbers, model, version, name, date, image, out);
     *count = count_of(written);
-    number_of(written)
+    number_of(numbered(written))
 }
 
 // How many of n bytes from a place on are there.

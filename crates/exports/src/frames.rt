@@ -1,7 +1,7 @@
 // The wire: frames written, their content tested, the escape; and the words of refusals.
 ghost use Rattle.std.specs.Prelude.{◌≡◌};
 ghost use Rattle.refusals.specs.Refusals.{say_of, words_of};
-ghost use Rattle.refusals.specs.Written.{number_in, count_in};
+ghost use Rattle.refusals.specs.Written.{numbered, number_in, count_in};
 ghost use Rattle.wire.specs.Escape.{may_follow, original_of};
 ghost use Rattle.wire.specs.Frame.{frame, is_content};
 ghost use Rattle.wire.specs.Write.{write_of};
@@ -28,7 +28,7 @@ pub extern "C" fn zrn_frame_write(
 {
     let written = wire::write(command, payload, out);
     *count = count_of(written);
-    number_of(written)
+    number_of(numbered(written))
 }
 
 #[unsafe(no_mangle)]
@@ -52,17 +52,24 @@ pub extern "C" fn zrn_escape_original(byte: u8) -> u8
     wire::original(byte)
 }
 
-// What a call that writes has answered, by number.
-pub fn number_of(written: Result<usize, Refusal>) -> u8
+// What a call that writes has answered, its refusal by number.
+pub(crate) fn numbered(written: Result<usize, Refusal>) -> Result<usize, u8>
+    ensures { result ≡ numbered written }
+{
+    written.map_err(Refusal::number)
+}
+
+// The number of such an answer, whatever number a refusal has; and the bytes written, however a refusal is told.
+pub fn number_of(written: Result<usize, u8>) -> u8
     ensures { result ≡ number_in written }
 {
     match written {
         Ok(_) => flat::WRITTEN,
-        Err(refusal) => refusal.number(),
+        Err(number) => number,
     }
 }
 
-pub fn count_of(written: Result<usize, Refusal>) -> usize
+pub fn count_of<R: Copy>(written: Result<usize, R>) -> usize
     ensures { result ≡ count_in written }
 {
     written.unwrap_or(0)

@@ -8,7 +8,7 @@ ghost use Rattle.host_model.specs.declared.events.Event.TheVariants as Event;
 ghost use Rattle.kept_host.specs.Kept.{stands, session_in, opened, kept_opening, kept, kept_step};
 ghost use Rattle.exports.specs.Flat.{written_flat};
 
-use crate::frames::{count_of, number_of};
+use crate::frames::{count_of, number_of, numbered};
 
 #[unsafe(no_mangle)]
 pub extern "C" fn zrn_host_open(
@@ -109,5 +109,5 @@ pub extern "C" fn zrn_restart_write(out: &mut [u8], count: &mut usize) -> u8
 {
     let written = commands::write_restart(out);
     *count = count_of(written);
-    number_of(written)
+    number_of(numbered(written))
 }

@@ -1,7 +1,7 @@
 // Reads raw bytes from standard input to its end and prints each frame: command, payload count, payload in hex or a dash.
 #![tactic(auto)]
 
-use console::SystemWords;
+use console::{Hex, SystemWords};
 use reader::{Heard, Reader};
 use std::io::{BufReader, Read};
 use std::{fmt, io};
@@ -26,7 +26,8 @@ impl Listening {
             let store = self.reader.store;
             let payload = Payload(reader::payload(&store, count));
             let length = payload.0.len();
-            println!(rt; "{command:02X} {length} {payload}")?;
+            let command = [command];
+            println!(rt; "{} {length} {payload}", Hex(&command))?;
             self.total = self.total.wrapping_add(1);
         }
         Ok(())
@@ -42,10 +43,7 @@ impl fmt::Display for Payload<'_> {
         if self.0.is_empty() {
             return f.write_str("-");
         }
-        for byte in self.0 {
-            write!(f, "{byte:02X}")?;
-        }
-        Ok(())
+        write!(f, "{}", Hex(self.0))
     }
 }
 

@@ -1,5 +1,5 @@
-// Bytes as the papers print them: two capital hex digits each, in a buffer that is lent. The programs print by formats; this stays for who has
-// none: README names it, and edits hold it.
+// Bytes as the papers print them: two capital hex digits each, in a buffer that is lent. The programs print them by console's Hex, which goes
+// through this.
 #![tactic(auto)]
 
 ghost use Rattle.std.specs.Prelude.{◌≡◌, ◌<◌};

@@ -6,7 +6,7 @@ use Rattle.host_model.specs.Waits.{phase_arises}
 use Rattle.host_model.specs.declared.views.Progress.{Progress}
 use Rattle.host_model.specs.declared.waits.Phase.{Phase}
 use Rattle.host_model.specs.declared.waits.Phase.TheVariants.{Ended}
-use Rattle.host_model.specs.declared.events.Answer.{Answer}
+use Rattle.host_model.specs.Events.{Answer}
 use Rattle.host.specs.declared.session.Session.{Session}
 use Rattle.host.specs.declared.session.Stepped.{Stepped}
 

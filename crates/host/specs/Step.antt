@@ -19,7 +19,7 @@ use Rattle.host_model.specs.declared.waits.Wait.{Wait}
 use Rattle.host_model.specs.declared.waits.Phase.{Phase}
 use Rattle.host_model.specs.declared.waits.Phase.TheVariants.{Ended, EndedAt, Waiting}
 use Rattle.host_model.specs.declared.events.Event.{Event}
-use Rattle.host_model.specs.declared.events.Answer.{Answer}
+use Rattle.host_model.specs.Events.{Answer}
 use Rattle.host_model.specs.declared.events.Answer.TheVariants.{Nothing, Sent, Refused, Failed}
 use Rattle.host_model.specs.declared.nexts.Next.{Next}
 use Rattle.host_model.specs.declared.nexts.Next.TheVariants.{Stays, Waits, Sends, Ends, Fails}

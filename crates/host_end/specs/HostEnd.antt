@@ -9,7 +9,7 @@ use Rattle.reader.specs.declared.steps.Heard.TheVariants.{Nothing, Frame, Droppe
 use Rattle.host.specs.Step.{Left, step_of}
 use Rattle.host.specs.declared.session.Session.{Session}
 use Rattle.host_model.specs.declared.events.Event.TheVariants as event
-use Rattle.host_model.specs.declared.events.Answer.{Answer}
+use Rattle.host_model.specs.Events.{Answer}
 use Rattle.host_model.specs.declared.events.Answer.TheVariants as answer
 use Rattle.host_end.specs.Text.{followed}
 use Rattle.host_end.specs.declared.end.HostEnd.{HostEnd}

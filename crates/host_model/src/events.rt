@@ -11,15 +11,16 @@ pub enum Event {
 }
 
 // Nothing to send; so many bytes to send at the front of the output; the load is done; refused; or the module refused
-// (21) or reports a failure (22): its byte passed on, and so many bytes of the restart frame to send.
+// (21) or reports a failure (22): its byte passed on, and so many bytes of the restart frame to send. A session tells a refusal by its
+// name; callers for whom it is a number, C's among them, have an answer by number, and any number.
 #[derive(Clone, Copy, Debug, PartialEq, Eq)]
-pub enum Answer {
+pub enum Answer<R = Refusal> {
     Nothing,
     Sent(usize),
     Done,
-    Refused(Refusal),
+    Refused(R),
     Failed {
-        refusal: Refusal,
+        refusal: R,
         passed: u8,
         count: usize,
     },

@@ -1,4 +1,5 @@
-// The host's words and rules without a function: what a load is opened with, its stages, what it waits for, and what is true of them.
+// The host's words and rules: what a load is opened with, its stages, what it waits for, and what is true of them. The only functions turn
+// numbers into rates and wishes and back, and rates into words: an impl stands with its type.
 #![tactic(auto)]
 
 mod answers;

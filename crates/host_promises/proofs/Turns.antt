@@ -53,7 +53,7 @@ use Rattle.host.specs.declared.session.Session.{Session}
 use Rattle.host_model.specs.declared.events.Event.{Event}
 use Rattle.host_model.specs.declared.events.Event.TheVariants.{Line, Elapsed}
 use Rattle.host_model.specs.declared.events.Event.TheVariants as event
-use Rattle.host_model.specs.declared.events.Answer.{Answer}
+use Rattle.host_model.specs.Events.{Answer}
 use Rattle.host_model.specs.declared.events.Answer.TheVariants.{Nothing, Sent, Refused, Failed}
 use Rattle.host_model.specs.declared.nexts.Next.{Next}
 use Rattle.host_model.specs.declared.answers.Move.{Move}

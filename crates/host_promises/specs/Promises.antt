@@ -34,7 +34,7 @@ use Rattle.host_model.specs.declared.events.Event.{Event}
 use Rattle.host_model.specs.declared.events.Event.TheVariants.{Line, Elapsed}
 use Rattle.host_model.specs.declared.events.Event.TheVariants as event
 use Rattle.host_model.specs.declared.answers.Move.TheVariants.{Enter, TooMany}
-use Rattle.host_model.specs.declared.events.Answer.{Answer}
+use Rattle.host_model.specs.Events.{Answer}
 use Rattle.host_model.specs.declared.events.Answer.TheVariants.{Nothing, Sent, Done, Refused, Failed}
 
 -- ---- what is heard

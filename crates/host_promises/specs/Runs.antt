@@ -1,10 +1,9 @@
 -- Runs of the host: its step's definition folded over what it is given.
 use Rattle.std.specs.Prelude.{ℕ, List, [], ◌∷◌, ◌++◌, take}
-use Rattle.host_model.specs.Events.{count_in}
+use Rattle.host_model.specs.Events.{Answer, count_in}
 use Rattle.host.specs.Step.{Left, step_of}
 use Rattle.host.specs.declared.session.Session.{Session}
 use Rattle.host_model.specs.declared.events.Event.{Event}
-use Rattle.host_model.specs.declared.events.Answer.{Answer}
 
 -- What a step is given besides the session: payload or line stand in the bytes.
 pub record Given : Type 0 where

@@ -31,6 +31,7 @@ use Rattle.kept_host.specs.Kept.{opening_by, BegunLeft, begun_as}
 use Rattle.kept_caller.specs.Kept.{caller_bytes, caller_kept, kept_as, kept_hears, kept_waits, kept_opening, opened_with}
 use Rattle.kept_caller.specs.Promises.{Keeps, KeptOpening, KeptCall}
 use Rattle.kept_caller.proofs.Back.{kept_back}
+use Rattle.kept_caller.proofs.KeptLaws.{opened_told}
 
 -- ---- the end after a byte or a time
 
@@ -117,7 +118,8 @@ unfolding kept_opening opening_by after_of
 kept_opening_law st number w image output room short wish = (
   cond_no _ _ _ (le-ltb (length st) caller_bytes room)
       ∙ ap (λ (b : BegunLeft). opened_with b st)
-      (cond_yes _ _ _ (wishes_known_law w) ∙ ap (λ (x : Wishes). begun_as (opening_of number x image output)) (wishes_back w)),
+      (cond_yes _ _ _ (wishes_known_law w) ∙ ap (λ (x : Wishes). begun_as (opening_of number x image output)) (wishes_back w))
+      ∙ opened_told (opening_of number w image output) st,
   record {
     whole = fresh_whole;
     arisen = reached_arises number w image output [];

@@ -11,6 +11,7 @@ use Rattle.reader.specs.Reader as reader
 use Rattle.reader.specs.Reader.{fresh}
 use Rattle.reader.specs.Moves as moves
 use Rattle.host_model.specs.Nexts.{time_next}
+use Rattle.host_model.specs.Events.{number_in, count_in}
 use Rattle.host_model.specs.Waits.{wait, wait_fits}
 use Rattle.host_model.specs.declared.plan.Rate.TheVariants.{R9600}
 use Rattle.host_model.specs.declared.plan.Start.TheVariants.{WithText}
@@ -131,7 +132,7 @@ pub counts_on_law : Opens
 counts_on_law st number first wish start same image output =
     let b = opening_by number first wish start same image output in
     let c = caller_in st in
-    opened b.begun.told.number b.begun.told.count (caller_kept (caller_with (caller_of b.begun.session).end c.resent c.dropped) st)
+    opened (number_in b.begun.answer) (count_in b.begun.answer) (caller_kept (caller_with (caller_of b.begun.session).end c.resent c.dropped) st)
     b.output
 
 -- The opening of a type that is none, refused, after a load that has resent three messages.

@@ -4,7 +4,7 @@ use Rattle.std.specs.Prelude.{ℕ, ◌+◌, cond, List, [], ◌∷◌, ltb, leng
 use Rattle.octets.specs.Octets.{number_at, laid}
 use Rattle.refusals.specs.Refusals.{no_room, refusal_number}
 use Rattle.flat.specs.Words.{spelled_all, low_half, high_half}
-use Rattle.host_model.specs.Events.{number_in, passed_in, count_in}
+use Rattle.host_model.specs.Events.{numbered, number_in, passed_in, count_in}
 use Rattle.host_model.specs.Views.{line_number}
 use Rattle.host.specs.Session.{session_progress, session_rate}
 use Rattle.host.specs.Step.{Left}
@@ -13,7 +13,7 @@ use Rattle.posts.specs.Caller.{CallerLeft, caller_with, caller_of, caller_hears,
 use Rattle.posts.specs.declared.caller.Caller.{Caller}
 use Rattle.kept_reader.specs.Kept.{reader_bytes, reader_in, reader_kept}
 use Rattle.kept_host.specs.Record.{record_bytes}
-use Rattle.kept_host.specs.Kept.{stage_number, words_of, session_in, Kept, kept, Opened, opened, opening_by, BegunLeft, begun_as}
+use Rattle.kept_host.specs.Kept.{stage_number, words_of, session_in, Kept, kept, Opened, opened, opening_by, BegunLeft}
 
 -- Where each part stands, and how long the record is.
 abbrev pub seen_place : ℕ
@@ -48,7 +48,7 @@ caller_in st =
 
 -- What a step of the caller leaves, with the caller in the bytes.
 abbrev pub kept_as : CallerLeft → List ℕ → Kept
-kept_as l st = kept (number_in l.answer) (count_in l.answer) (passed_in l.answer) (caller_kept l.caller st) l.output
+kept_as l st = kept (number_in (numbered l.answer)) (count_in l.answer) (passed_in l.answer) (caller_kept l.caller st) l.output
 
 -- 2 and nothing changed for bytes without room; else a byte,
 unfoldable pub kept_hears : List ℕ → ℕ → List ℕ → List ℕ → Kept
@@ -62,10 +62,11 @@ kept_waits st ms image output =
 
 -- An opening: its answer, and its session with a fresh reader and nothing counted.
 abbrev pub opened_with : BegunLeft → List ℕ → Opened
-opened_with b st = opened b.begun.told.number b.begun.told.count (caller_kept (caller_of b.begun.session) st) b.output
+opened_with b st = opened (number_in b.begun.answer) (count_in b.begun.answer) (caller_kept (caller_of b.begun.session) st) b.output
 
+-- The session's own opening, its answer by number, and its record.
 abbrev pub opened_as : Left → List ℕ → Opened
-opened_as l st = opened_with (begun_as l) st
+opened_as l st = opened (number_in (numbered l.answer)) (count_in l.answer) (caller_kept (caller_of l.session) st) l.output
 
 unfoldable pub kept_opening : List ℕ → ℕ → ℕ → ℕ → ℕ → ℕ → List ℕ → List ℕ → Opened
 kept_opening st number first wish start same image output =

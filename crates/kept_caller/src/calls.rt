@@ -33,8 +33,9 @@ pub fn open(
     }
     let begun = kept_host::begin(number, image, first, wish, start, same, out);
     keep(Caller::new(begun.session), state);
-    *count = begun.told.count;
-    begun.told.number
+    let says = kept_host::told_of(begun.answer);
+    *count = says.count;
+    says.number
 }
 
 // A byte has arrived.
@@ -85,11 +86,12 @@ pub fn wait(
 }
 
 // What a step leaves, apart from its output.
+#[tactic(auto, using(kept_host::proofs::KeptLaws::told_numbered))]
 fn leave(step: CallerStep, state: &mut [u8], count: &mut usize, passed: &mut u8) -> u8
     ensures { kept result count.new passed.new state.new [] ≡ kept_as (caller_left step []) state.old }
 {
     keep(step.caller, state);
-    let says = kept_host::told_of(step.answer);
+    let says = kept_host::told_of(kept_host::numbered(step.answer));
     *count = says.count;
     *passed = says.passed;
     says.number

@@ -16,8 +16,10 @@ use Rattle.host_model.specs.declared.waits.Phase.TheVariants.{Ended, EndedAt, Wa
 use Rattle.host.specs.declared.session.Session.{Session}
 use Rattle.host_model.specs.declared.events.Event.{Event}
 use Rattle.host.specs.declared.session.Stepped.{Stepped}
+use Rattle.host_model.specs.Events.{Answer, numbered, number_in, count_in, passed_in}
+use Rattle.host_model.specs.declared.events.Answer.TheVariants.{Nothing, Sent, Done, Refused, Failed}
 use Rattle.kept_host.specs.Record.{stage_place, rate_place, waited_place, repeats_place, record_words, record_bytes, ended_stage}
-use Rattle.kept_host.specs.Kept.{words_of, phase_words, rate_in, stage_in, plan_in, kind_phase, fields_in, session_in, kept_of, told_of, kept, kept_as, kept_step, opened, BegunLeft, opened_with}
+use Rattle.kept_host.specs.Kept.{words_of, phase_words, rate_in, stage_in, plan_in, kind_phase, fields_in, session_in, kept_of, told_of, kept, kept_as, kept_step, opened, BegunLeft, begun_as, opened_with, opened_as}
 use Rattle.kept_host.specs.declared.answers.Told.{Told}
 
 -- ---- the record
@@ -59,20 +61,31 @@ module _ (kind : Kind) (st : List ℕ) (stage : ℕ) (at : stage ≡ get_or st s
 
 -- ---- the calls
 
+-- An answer told by number says the same count and the same byte passed on.
+pub told_numbered : (a : Answer) → told_of (numbered a) ≡ record { number = number_in (numbered a); count = count_in a; passed = passed_in a }
+told_numbered Nothing = refl
+told_numbered (Sent n) = refl
+told_numbered Done = refl
+told_numbered (Refused refusal) = refl
+told_numbered (Failed refusal passed n) = refl
+
 -- The session read, its step, the next session kept and the answer told are a step of the bytes.
 pub step_kept : (st : List ℕ) (event : Event) (bytes image output : List ℕ) (s : Session) (r : Stepped) (out state : List ℕ) (t : Told)
-    → s ≡ session_in st → left r out ≡ step_of s event bytes image output → state ≡ kept_of st r.session → t ≡ told_of r.answer
+    → s ≡ session_in st → left r out ≡ step_of s event bytes image output → state ≡ kept_of st r.session → t ≡ told_of (numbered r.answer)
     → kept t.number t.count t.passed state out ≡ kept_step st event bytes image output
 unfolding kept_step
 step_kept st event bytes image output s r out state t read step keeps says =
-    ap (λ (x : Told). kept x.number x.count x.passed state out) says
+    ap (λ (x : Told). kept x.number x.count x.passed state out) (says ∙ told_numbered r.answer)
     ∙ ap (kept_as (left r out)) keeps
     ∙ ap (λ (l : Left). kept_as l (kept_of st l.session)) (step ∙ ap (λ (x : Session). step_of x event bytes image output) read)
 
 -- So are an opening and its session's record.
 pub open_kept : (st : List ℕ) (b : BegunLeft) (begun : Begun) (out state : List ℕ)
     → record { begun = begun; output = out } ≡ b → state ≡ recorded (words_of begun.session) st
-    → opened begun.told.number begun.told.count state out ≡ opened_with b st
+    → opened (number_in begun.answer) (count_in begun.answer) state out ≡ opened_with b st
 open_kept st b begun out state opening keeps =
-    ap (λ (x : List ℕ). opened begun.told.number begun.told.count x out) keeps
+    ap (λ (x : List ℕ). opened (number_in begun.answer) (count_in begun.answer) x out) keeps
     ∙ ap (λ (x : BegunLeft). opened_with x st) opening
+
+pub opened_told : (l : Left) (st : List ℕ) → opened_with (begun_as l) st ≡ opened_as l st
+opened_told l st = ap (λ (t : Told). opened t.number t.count (recorded (words_of l.session) st) l.output) (told_numbered l.answer)

@@ -38,7 +38,7 @@ use Rattle.kept_host.specs.Kept.{start_number, same_number, words_of, rate_in, s
 use Rattle.kept_host.specs.Kept.{Opened, opened_as, wishes_known, wishes_in, opening_by, kept_opening}
 use Rattle.flat.specs.Calls.{calls_by, bytes_by}
 use Rattle.flat.specs.Found.{recorded_again}
-use Rattle.kept_host.proofs.KeptLaws.{words_count}
+use Rattle.kept_host.proofs.KeptLaws.{words_count, opened_told}
 use Rattle.kept_host.specs.Promises.{wish_in, Real, kept_by, calls_of, bytes_after, own_run, kept_opened, KeptRun}
 use Rattle.kept_host.proofs.Back.{kept_back}
 
@@ -195,6 +195,7 @@ opened_same st number w image output room =
     cond_no _ _ _ (le-ltb (length st) record_bytes room)
     ∙ ap (λ (b : BegunLeft). opened_with b st)
     (cond_yes _ _ _ (wishes_known_law w) ∙ ap (λ (x : Wishes). begun_as (opening_of number x image output)) (wishes_back w))
+    ∙ opened_told (opening_of number w image output) st
 
 pub kept_run : KeptRun
 unfolding after_of

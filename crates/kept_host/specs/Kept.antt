@@ -20,13 +20,13 @@ use Rattle.host_model.specs.declared.plan.Stage.TheVariants.{Text, Asking, Decla
 use Rattle.host.specs.Session.{session, arises}
 use Rattle.host_model.specs.Waits.{wait}
 use Rattle.host.specs.Step.{Left, Wishes, step_of, ended_of, opening_of}
-use Rattle.host_model.specs.Events.{number_in, passed_in, count_in}
+use Rattle.host_model.specs.Events.{AnswerByNumber, numbered, number_in, passed_in, count_in}
 use Rattle.host_model.specs.declared.waits.Wait.{Wait}
 use Rattle.host_model.specs.declared.waits.Phase.{Phase}
 use Rattle.host_model.specs.declared.waits.Phase.TheVariants.{Ended, EndedAt, Waiting}
 use Rattle.host.specs.declared.session.Session.{Session}
 use Rattle.host_model.specs.declared.events.Event.{Event}
-use Rattle.host_model.specs.declared.events.Answer.{Answer}
+use Rattle.host_model.specs.declared.events.Answer.TheVariants.{Refused}
 use Rattle.kept_host.specs.Record.{image_place, wish_place, stage_place, type_place, first_place, rate_place, start_place, same_place, size_place, number_place, waited_place, repeats_place}
 use Rattle.kept_host.specs.Record.{record_bytes, ended_stage, text_stage, asking_stage, declaring_stage, sending_stage, noticing_stage, restarting_stage}
 use Rattle.kept_host.specs.declared.words.Staged.{Staged}
@@ -147,8 +147,8 @@ kept_of st s = cond (stands st) (recorded (words_of s) st) st
 
 -- ---- answers by number
 
--- The numbers of an answer.
-abbrev pub told_of : Answer → Told
+-- The numbers of an answer, whatever number a refusal has.
+abbrev pub told_of : AnswerByNumber → Told
 told_of a = record { number = number_in a; count = count_in a; passed = passed_in a }
 
 -- ---- what a call leaves
@@ -167,7 +167,7 @@ kept answer count passed state output =
 
 -- What a step of the session leaves, with the bytes that then keep it.
 abbrev pub kept_as : Left → List ℕ → Kept
-kept_as l state = kept (number_in l.answer) (count_in l.answer) (passed_in l.answer) state l.output
+kept_as l state = kept (number_in (numbered l.answer)) (count_in l.answer) (passed_in l.answer) state l.output
 
 -- An event: the session's own step, from the session kept to the one kept after it.
 unfoldable pub kept_step : List ℕ → Event → List ℕ → List ℕ → List ℕ → Kept
@@ -184,24 +184,25 @@ pub record Opened : Type 0 where
 abbrev pub opened : ℕ → ℕ → List ℕ → List ℕ → Opened
 opened answer count state output = record { answer = answer; count = count; state = state; output = output }
 
--- What an opening by numbers leaves: the session, its answer's numbers, and the output.
+-- What an opening by numbers leaves: the session, its answer by number, and the output.
 pub record BegunLeft : Type 0 where
   pub begun : Begun
   pub output : List ℕ
 
-abbrev pub begun_left : Session → Told → List ℕ → BegunLeft
-begun_left s told output = record { begun = record { session = s; told = told }; output = output }
+abbrev pub begun_left : Session → AnswerByNumber → List ℕ → BegunLeft
+begun_left s answer output = record { begun = record { session = s; answer = answer }; output = output }
 
--- The session's own opening, told in numbers.
+-- The session's own opening, its answer by number.
 abbrev pub begun_as : Left → BegunLeft
-begun_as l = begun_left l.session (told_of l.answer) l.output
+begun_as l = begun_left l.session (numbered l.answer) l.output
 
 -- A session opened over some bytes: its answer, and its record.
 abbrev pub opened_with : BegunLeft → List ℕ → Opened
-opened_with b st = opened b.begun.told.number b.begun.told.count (recorded (words_of b.begun.session) st) b.output
+opened_with b st = opened (number_in b.begun.answer) (count_in b.begun.answer) (recorded (words_of b.begun.session) st) b.output
 
+-- The session's own opening, its answer by number, and its record.
 abbrev pub opened_as : Left → List ℕ → Opened
-opened_as l st = opened_with (begun_as l) st
+opened_as l st = opened (number_in (numbered l.answer)) (count_in l.answer) (recorded (words_of l.session) st) l.output
 
 -- A rate is 1 to 5, start and same are 0 or 1.
 unfoldable pub wishes_known : ℕ → ℕ → ℕ → Bool
@@ -214,7 +215,7 @@ wishes_in first wish start same = record { first = rate_in first; wish = wish; s
 unfoldable pub opening_by : ℕ → ℕ → ℕ → ℕ → ℕ → List ℕ → List ℕ → BegunLeft
 opening_by number first wish start same image output =
     cond (wishes_known first start same) (begun_as (opening_of number (wishes_in first wish start same) image output))
-    (begun_left (ended_of (length image)) (record { number = unknown; count = 0; passed = 0 }) output)
+    (begun_left (ended_of (length image)) (Refused unknown) output)
 
 -- 2 and nothing written for bytes without room; else the opening, and its session's record.
 unfoldable pub kept_opening : List ℕ → ℕ → ℕ → ℕ → ℕ → ℕ → List ℕ → List ℕ → Opened

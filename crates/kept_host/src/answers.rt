@@ -1,6 +1,7 @@
 // The session's answers by number.
 ghost use Rattle.std.specs.Prelude.{◌≡◌};
 ghost use Rattle.host_model.specs.Views.{line_number};
+ghost use Rattle.host_model.specs.Events.{numbered};
 ghost use Rattle.kept_host.specs.Kept.{told_of};
 
 use host::Answer;
@@ -14,8 +15,29 @@ pub struct Told {
     pub passed: u8,
 }
 
-// A call and no From, as PROMISES names it.
-pub fn told_of(answer: Answer) -> Told
+// The same answer, its refusal by number. A call and no From: an impl would stand with the type, in the model.
+pub fn numbered(answer: Answer) -> Answer<u8>
+    ensures { result ≡ numbered answer }
+{
+    match answer {
+        Answer::Nothing => Answer::Nothing,
+        Answer::Sent(count) => Answer::Sent(count),
+        Answer::Done => Answer::Done,
+        Answer::Refused(refusal) => Answer::Refused(refusal.number()),
+        Answer::Failed {
+            refusal,
+            passed,
+            count,
+        } => Answer::Failed {
+            refusal: refusal.number(),
+            passed,
+            count,
+        },
+    }
+}
+
+// A call and no From, as PROMISES names it. A refusal has any number.
+pub fn told_of(answer: Answer<u8>) -> Told
     ensures { result ≡ told_of answer }
 {
     match answer {
@@ -32,8 +54,8 @@ pub fn told_of(answer: Answer) -> Told
             number: flat::DONE,
             ..Told::default()
         },
-        Answer::Refused(refusal) => Told {
-            number: refusal.number(),
+        Answer::Refused(number) => Told {
+            number,
             ..Told::default()
         },
         Answer::Failed {
@@ -41,7 +63,7 @@ pub fn told_of(answer: Answer) -> Told
             passed,
             count,
         } => Told {
-            number: refusal.number(),
+            number: refusal,
             count,
             passed,
         },

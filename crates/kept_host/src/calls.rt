@@ -4,7 +4,7 @@ ghost use Rattle.host_model.specs.Views.{progress_of, line_number};
 ghost use Rattle.host.specs.Session.{session_progress, session_rate, session_repeats};
 ghost use Rattle.kept_host.specs.Kept.{session_in, stage_number, kept, kept_step};
 
-use crate::answers::{line_number, told_of};
+use crate::answers::{line_number, numbered, told_of};
 use crate::kept::{keep, session_in};
 use crate::record;
 use crate::words::stage_words;
@@ -92,7 +92,7 @@ fn step(
 {
     let stepped = session_in(state).step(event, bytes, image, out);
     keep(stepped.session, state);
-    let says = told_of(stepped.answer);
+    let says = told_of(numbered(stepped.answer));
     *count = says.count;
     *passed = says.passed;
     says.number

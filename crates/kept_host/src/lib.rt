@@ -9,7 +9,7 @@ mod opening;
 mod record;
 mod words;
 
-pub use answers::{Told, told_of};
+pub use answers::{Told, numbered, told_of};
 pub use calls::{frame, line, line_rate, progress, resent, stage, wait};
 pub use kept::{record_of, session_in, stands, write};
 pub use opening::{Begun, begin, open};

@@ -2,18 +2,18 @@
 ghost use Rattle.std.specs.Prelude.{◌≡◌};
 ghost use Rattle.kept_host.specs.Kept.{opened, opening_by, kept_opening};
 
-use crate::answers::{Told, told_of};
+use crate::answers::{numbered, told_of};
 use crate::kept::{over, write};
 use crate::record;
-use host::Session;
+use host::{Answer, Session};
 use refusals::Refusal;
 use stages::{Rate, Same, Start};
 
-// What an opening by numbers leaves: the session, and its answer as C is told it.
+// What an opening by numbers leaves: the session, and its answer by number, since 106 is no refusal of document 01.
 #[derive(Clone, Copy)]
 pub struct Begun {
     pub session: Session,
-    pub told: Told,
+    pub answer: Answer<u8>,
 }
 
 // Opens a session: 2 and nothing written for bytes without room; else its record and its answer. The nine parameters are those of C's
@@ -39,8 +39,9 @@ pub fn open(
     }
     let begun = begin(number, image, first, wish, start, same, out);
     write(begun.session, state);
-    *count = begun.told.count;
-    begun.told.number
+    let says = told_of(begun.answer);
+    *count = says.count;
+    says.number
 }
 
 // The opening by numbers: 106 and an ended session for a rate, start or same that is none. They come one by one, as C's zrn_host_open and
@@ -64,15 +65,12 @@ pub fn begin(
     ) else {
         return Begun {
             session: over(image.len()),
-            told: Told {
-                number: flat::UNKNOWN,
-                ..Told::default()
-            },
+            answer: Answer::Refused(flat::UNKNOWN),
         };
     };
     let stepped = Session::opening(number, image, first, wish, start, same, out);
     Begun {
         session: stepped.session,
-        told: told_of(stepped.answer),
+        answer: numbered(stepped.answer),
     }
 }

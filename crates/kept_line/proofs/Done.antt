@@ -17,8 +17,7 @@ use Rattle.reader.specs.declared.steps.Heard.TheVariants as heard
 use Rattle.host.specs.Session.{arises}
 use Rattle.host.specs.Step.{Left, phase_step, step_of}
 use Rattle.host.specs.declared.session.Session.{Session}
-use Rattle.host_model.specs.Events.{number_in, load_done}
-use Rattle.host_model.specs.declared.events.Answer.{Answer}
+use Rattle.host_model.specs.Events.{Answer, numbered, number_in, load_done}
 use Rattle.host_model.specs.declared.events.Answer.TheVariants.{Nothing, Done}
 use Rattle.host_model.specs.declared.events.Event.TheVariants as event
 use Rattle.host_model.specs.declared.waits.Wait.{Wait}
@@ -34,7 +33,7 @@ use Rattle.host_end.specs.declared.end.HostEnd.{HostEnd}
 
 -- An answer that is told as done is done.
 abbrev pub Tells : Answer → Type 0
-Tells a = number_in a ≡ load_done → a ≡ Done
+Tells a = number_in (numbered a) ≡ load_done → a ≡ Done
 
 -- 21 and 22 are no such number.
 refused_low : (w : Wait) (g : Given) (refusal : Refusal) (passed : ℕ) → RefusedBy w g refusal passed → refusal_number refusal ≡ load_done → ⊥

@@ -5,7 +5,7 @@ use Rattle.flat.specs.Words.{spelled_all, recorded, stands_for}
 use Rattle.flat.specs.WordsLaws.{length_spelled_all}
 use Rattle.flat.specs.Found.{recorded_alone}
 use Rattle.octets.specs.Octets.{same_bytes, part_of}
-use Rattle.module_model.specs.Answers.{number_in}
+use Rattle.module_model.specs.Answers.{numbered, number_in}
 use Rattle.module.specs.Session.{opening_of}
 use Rattle.module_model.specs.declared.phases.Phase.{Phase}
 use Rattle.module_model.specs.declared.phases.Phase.TheVariants.{Closed, Ready, Begun, Loading, Done}
@@ -44,6 +44,6 @@ session_by_law st fields s genuine f g e = rw (e, g, f)
 
 -- An opening.
 pub opening_by_law : (st flash after : List ℕ) (first : Stepped) (number : ℕ) → record_bytes ≤ length st → first ≡ opening_of flash
-    → after ≡ recorded (words_of first.session) st → number ≡ number_in first.answer → opened number after ≡ kept_opening st flash
+    → after ≡ recorded (words_of first.session) st → number ≡ number_in (numbered first.answer) → opened number after ≡ kept_opening st flash
 unfolding kept_opening
 opening_by_law st flash after first number room e k n = rw (k, n, e, le-ltb (length st) record_bytes room)

@@ -7,7 +7,7 @@ use Rattle.kinds.specs.declared.Kind.{Kind}
 use Rattle.kinds.specs.declared.Kind.TheVariants.{Navigation}
 use Rattle.module.specs.Session.{session, opening_of}
 use Rattle.module.specs.Step.{Left, step_of}
-use Rattle.module_model.specs.Answers.{number_in, count_in}
+use Rattle.module_model.specs.Answers.{numbered, number_in, count_in}
 use Rattle.module_model.specs.declared.phases.Transfer.{Transfer}
 use Rattle.module_model.specs.declared.phases.Pieces.{Pieces}
 use Rattle.module_model.specs.declared.phases.Phase.{Phase}
@@ -99,7 +99,7 @@ kept answer count state flash reply = record { answer = answer; count = count; s
 
 -- What a step leaves, with the session in these bytes.
 abbrev pub kept_as : List ℕ → Left → Kept
-kept_as st l = kept (number_in l.answer) (count_in l.answer) st l.flash l.reply
+kept_as st l = kept (number_in (numbered l.answer)) (count_in l.answer) st l.flash l.reply
 
 -- One event given to the session in some bytes.
 unfoldable pub kept_step : List ℕ → Event → List ℕ → List ℕ → List ℕ → Kept
@@ -118,4 +118,4 @@ opened answer state = record { answer = answer; state = state }
 unfoldable pub kept_opening : List ℕ → List ℕ → Opened
 kept_opening st flash =
     cond (ltb (length st) record_bytes) (opened (refusal_number no_room) st)
-    (opened (number_in (opening_of flash).answer) (recorded (words_of (opening_of flash).session) st))
+    (opened (number_in (numbered (opening_of flash).answer)) (recorded (words_of (opening_of flash).session) st))

@@ -2,7 +2,7 @@
 use Rattle.std.specs.Prelude.{ℕ, ◌^◌, ◌≤◌, ◌<◌, true, List, map, ◌≡◌, length}
 use Rattle.flat.specs.Words.{recorded}
 use Rattle.flat.specs.Calls.{calls_by, bytes_by}
-use Rattle.module_model.specs.Answers.{number_in}
+use Rattle.module_model.specs.Answers.{numbered, number_in}
 use Rattle.module.specs.Session.{opening_of, arises}
 use Rattle.module_promises.specs.Runs.{Given, Exchange, after_of, run_of, AllBytes}
 use Rattle.module_promises.specs.Promises.{opened}
@@ -36,7 +36,7 @@ told st x = kept_as (recorded (words_of x.left.session) st) x.left
 -- A run of calls from an opening is the session's own run: the opening answers the same, each call leaves just what the session's own
 -- step leaves, and the bytes at the end are the record of the session after the run.
 pub record SameRun (st flash : List ℕ) (gs : List Given) : Type 0 where
-  pub opening_answer : (kept_opening st flash).answer ≡ number_in (opening_of flash).answer
+  pub opening_answer : (kept_opening st flash).answer ≡ number_in (numbered (opening_of flash).answer)
   pub each : calls_of (kept_opening st flash).state gs ≡ map (told st) (run_of (opened flash) gs)
   pub bytes : bytes_after (kept_opening st flash).state gs ≡ recorded (words_of (after_of (opened flash) gs)) st
 

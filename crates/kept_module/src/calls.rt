@@ -2,7 +2,7 @@
 // C calls them so.
 ghost use Rattle.std.specs.Prelude.{◌≡◌, [], length};
 ghost use Rattle.module.specs.Session.{takes};
-ghost use Rattle.module_model.specs.Answers.{number_in, count_in};
+ghost use Rattle.module_model.specs.Answers.{number_in, count_in, numbered};
 ghost use Rattle.kept_module.specs.Kept.{session_in, opened, kept_opening, kept, kept_step};
 
 use crate::reading::{fields_in, session_of};
@@ -21,7 +21,7 @@ pub fn open(state: &mut [u8], flash: &[u8]) -> u8
     }
     let first = Session::opening(flash);
     write(first.session, state);
-    number_of(first.answer)
+    number_of(numbered(first.answer))
 }
 
 // Whether the session in the bytes takes events.
@@ -85,21 +85,32 @@ fn step(
     let next = session_of(genuine, fields).step(event, payload, flash, reply);
     keep(genuine, next.session, state);
     *count = count_of(next.answer);
-    number_of(next.answer)
+    number_of(numbered(next.answer))
 }
 
-// An answer as a number, and the bytes that it sends.
-pub fn number_of(answer: Answer) -> u8
+// The same answer, its refusal by number. A call and no From: an impl would stand with the type, and the model holds no function.
+pub fn numbered(answer: Answer) -> Answer<u8>
+    ensures { result ≡ numbered answer }
+{
+    match answer {
+        Answer::Nothing => Answer::Nothing,
+        Answer::Sent(count) => Answer::Sent(count),
+        Answer::Refused(refusal) => Answer::Refused(refusal.number()),
+    }
+}
+
+// An answer as a number, whatever number a refusal has; and the bytes that it sends, however a refusal is told.
+pub fn number_of(answer: Answer<u8>) -> u8
     ensures { result ≡ number_in answer }
 {
     match answer {
         Answer::Nothing => flat::NOTHING,
         Answer::Sent(_) => flat::WRITTEN,
-        Answer::Refused(refusal) => refusal.number(),
+        Answer::Refused(number) => number,
     }
 }
 
-pub fn count_of(answer: Answer) -> usize
+pub fn count_of<R: Copy>(answer: Answer<R>) -> usize
     ensures { result ≡ count_in answer }
 {
     match answer {

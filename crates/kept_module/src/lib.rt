@@ -6,6 +6,6 @@ mod reading;
 mod record;
 mod writing;
 
-pub use calls::{count_of, frame, is_open, number_of, open, session_in, wait};
+pub use calls::{count_of, frame, is_open, number_of, numbered, open, session_in, wait};
 pub use record::RECORD_BYTES;
 pub use writing::{record_of, write};

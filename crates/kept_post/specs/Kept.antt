@@ -6,7 +6,7 @@ use Rattle.refusals.specs.Refusals.{no_room, refusal_number}
 use Rattle.kinds.specs.Kinds.{number_of}
 use Rattle.flat.specs.Answers.{nothing}
 use Rattle.flat.specs.Words.{spelled_all, low_half, high_half}
-use Rattle.module_model.specs.Answers.{number_in, count_in}
+use Rattle.module_model.specs.Answers.{numbered, number_in, count_in}
 use Rattle.board_end.specs.Board.{board_with}
 use Rattle.posts.specs.Post.{PostLeft, post_with, waiting_post, opened_post, post_hears, post_waits}
 use Rattle.posts.specs.View.{view_of, idle_of}
@@ -59,7 +59,7 @@ kept_opening st flash = put (opened_post waiting_post flash) st
 
 -- What a step of the post leaves, with the post in the bytes.
 abbrev pub kept_as : PostLeft → List ℕ → Kept
-kept_as l st = kept (number_in l.answer) (count_in l.answer) (post_kept l.post st) l.flash l.reply
+kept_as l st = kept (number_in (numbered l.answer)) (count_in l.answer) (post_kept l.post st) l.flash l.reply
 
 -- 2 and nothing changed for bytes without room; else a byte,
 unfoldable pub kept_hears : List ℕ → ℕ → List ℕ → List ℕ → Kept

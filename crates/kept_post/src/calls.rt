@@ -67,5 +67,5 @@ fn leave(step: PostStep, state: &mut [u8], count: &mut usize) -> u8
 {
     keep(step.post, state);
     *count = kept_module::count_of(step.answer);
-    kept_module::number_of(step.answer)
+    kept_module::number_of(kept_module::numbered(step.answer))
 }

@@ -31,7 +31,7 @@ use Rattle.host_model.specs.Messages.{message_of}
 use Rattle.host.specs.Step.{Wishes, Left, left, plan_of, waiting_of}
 use Rattle.host.specs.StepLaws.{arisen, step_phase}
 use Rattle.host_promises.specs.Runs.{Given, leaves, sent_by}
-use Rattle.host_model.specs.Events.{count_in}
+use Rattle.host_model.specs.Events.{Answer, count_in}
 use Rattle.host_model.specs.Views.{stage_rate, ended_at_rate}
 use Rattle.host_promises.proofs.Arises.{step_arises, arises_wait}
 use Rattle.host_promises.proofs.Turns.{every_turn}
@@ -42,7 +42,6 @@ use Rattle.host_model.specs.declared.waits.Phase.{Phase}
 use Rattle.host_model.specs.declared.waits.Phase.TheVariants.{Ended, EndedAt, Waiting}
 use Rattle.host.specs.declared.session.Session.{Session}
 use Rattle.host_model.specs.declared.events.Event.{Event}
-use Rattle.host_model.specs.declared.events.Answer.{Answer}
 use Rattle.host_model.specs.declared.events.Answer.TheVariants.{Nothing, Done}
 use Rattle.line.specs.Joined.{Joined, host_takes}
 use Rattle.line.proofs.TransferLaws.{packet_short}

@@ -12,7 +12,7 @@ use Rattle.host.specs.Step as host_step
 use Rattle.host.specs.Step.{Wishes, opening_of}
 use Rattle.host_promises.specs.Runs as host_runs
 use Rattle.host_model.specs.declared.events.Event.TheVariants as host_event
-use Rattle.host_model.specs.declared.events.Answer.{Answer}
+use Rattle.host_model.specs.Events.{Answer}
 use Rattle.host_model.specs.declared.events.Answer.TheVariants.{Nothing, Sent, Done, Refused, Failed}
 use Rattle.line.specs.Joined.{ModuleSession, HostSession, host_gets, board_gets}
 

@@ -10,7 +10,7 @@ use Rattle.module_promises.specs.Runs.{heard_in}
 use Rattle.module_model.specs.Answers as module_answers
 use Rattle.host.specs.Step as host_step
 use Rattle.host_model.specs.Events as host_events
-use Rattle.host_model.specs.declared.events.Answer.{Answer}
+use Rattle.host_model.specs.Events.{Answer}
 use Rattle.host_model.specs.declared.events.Answer.TheVariants.{Nothing}
 use Rattle.host_promises.specs.Runs as host_runs
 use Rattle.board_end.specs.Board.{BoardLeft, board_of, board_hears, board_waits}

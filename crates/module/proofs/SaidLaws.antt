@@ -14,7 +14,7 @@ use Rattle.wire.specs.Frame.{Frame, content_of, wire_of}
 use Rattle.wire.specs.Write.{write_of}
 use Rattle.wire.specs.WriteLaws.{wire_size, wire_most, write_done}
 use Rattle.module_model.specs.Rules.{frames_of, put_of, decide_of}
-use Rattle.module_model.specs.declared.events.Answer.{Answer}
+use Rattle.module_model.specs.Answers.{Answer}
 use Rattle.module_model.specs.declared.events.Answer.TheVariants.{Sent}
 use Rattle.module_model.specs.declared.events.Answer.TheVariants as answer
 use Rattle.module_model.specs.declared.rules.Decision.{Decision}

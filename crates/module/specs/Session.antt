@@ -4,7 +4,7 @@ use Rattle.refusals.specs.Refusals.{wrong_length}
 use Rattle.module_model.specs.Phases.{openable, alive, held, is_closed, closed_arises, written_in}
 use Rattle.module_model.specs.declared.phases.Phase.{Phase}
 use Rattle.module_model.specs.declared.phases.Phase.TheVariants.{Closed, Ready}
-use Rattle.module_model.specs.declared.events.Answer.{Answer}
+use Rattle.module_model.specs.Answers.{Answer}
 use Rattle.module_model.specs.declared.events.Answer.TheVariants.{Nothing, Refused}
 use Rattle.module.specs.declared.session.Session.{Session}
 use Rattle.module.specs.declared.session.Stepped.{Stepped}

@@ -10,7 +10,7 @@ use Rattle.module_model.specs.declared.phases.Phase.TheVariants.{Closed}
 use Rattle.module_model.specs.declared.events.Event.{Event}
 use Rattle.module_model.specs.declared.events.Event.TheVariants.{Elapsed}
 use Rattle.module_model.specs.declared.events.Event.TheVariants as event
-use Rattle.module_model.specs.declared.events.Answer.{Answer}
+use Rattle.module_model.specs.Answers.{Answer}
 use Rattle.module_model.specs.declared.events.Answer.TheVariants.{Nothing, Sent, Refused}
 use Rattle.module_model.specs.declared.rules.Decision.{Decision}
 use Rattle.module.specs.declared.session.Session.{Session}

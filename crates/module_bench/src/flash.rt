@@ -1,5 +1,5 @@
 // The flash around the range of the transfer, and whether all of it holds what it should.
-use console::Row;
+use console::{Row, Word};
 
 // Type 1 begins here.
 const BASE: usize = 0x8000;
@@ -11,12 +11,12 @@ const IMAGE: [u8; 14] = [
 
 // Prints the bytes from 0x7FFC to 0x8017, and judges the whole flash: so many bytes of the image stand in it, and nothing else.
 pub(crate) fn show_flash(rt: &impl Print, count: usize, flash: &[u8]) {
-    for (address, size) in [(0x7FFC, 4), (0x8000, 16), (0x8010, 8)] {
+    for (address, size) in [(0x7FFC_u32, 4), (0x8000, 16), (0x8010, 8)] {
         let row = Row {
-            bytes: octets::part(flash, address, size),
+            bytes: octets::part(flash, address as usize, size),
             places: 0,
         };
-        let _ = println!(rt; "flash  0x{address:08X} {row}");
+        let _ = println!(rt; "flash  {} {row}", Word(address));
     }
     judge(rt, octets::part(&IMAGE, 0, count), flash);
 }

@@ -1,7 +1,7 @@
 // The story, step by step.
 use crate::flash::show_flash;
 use crate::story::{Lent, STORY, Step};
-use console::Row;
+use console::{Hex, Row};
 use module::{Event, Session, Stepped};
 use module_model::SMALLEST_REPLY;
 use spoken_frames::{Lines, Mark};
@@ -63,7 +63,8 @@ impl<P: Print> Bench<'_, P> {
             bytes: payload,
             places: PLACES - 1,
         };
-        let _ = println!(rt; "> {command:02X}{row}  {words}");
+        let order = [command];
+        let _ = println!(rt; "> {}{row}  {words}", Hex(&order));
         let event = Event::Frame {
             command,
             count: payload.len(),

@@ -12,10 +12,11 @@ pub enum Event {
     Elapsed(u32),
 }
 
-// Nothing to send, so many bytes to send at the front of the reply buffer, or refused.
+// Nothing to send, so many bytes to send at the front of the reply buffer, or refused. A session tells a refusal by its name; callers for
+// whom it is a number, C's among them, have an answer by number, and any number.
 #[derive(Clone, Copy)]
-pub enum Answer {
+pub enum Answer<R = Refusal> {
     Nothing,
     Sent(usize),
-    Refused(Refusal),
+    Refused(R),
 }

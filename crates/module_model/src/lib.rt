@@ -1,5 +1,5 @@
-// The rules of the module's session as definitions and laws (specs/), over the types below. It has no function: the crate module
-// computes what stands here.
+// The rules of the module's session as definitions and laws (specs/), over the types below. It has no function but the one that
+// tells an answer by number: the crate module computes what stands here.
 #![tactic(auto)]
 
 mod events;

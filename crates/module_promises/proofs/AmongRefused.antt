@@ -3,13 +3,12 @@ use Rattle.std.specs.Prelude.{Bool, true, false, List, [], ◌∷◌, ◌≡◌,
 use Rattle.std.proofs.lemmas.Bool.{false≢true}
 use Rattle.std.proofs.Common.{ap, ◌∙◌}
 use Rattle.refusals.specs.declared.Refusal.{Refusal}
-use Rattle.module_model.specs.Answers.{is_refused}
+use Rattle.module_model.specs.Answers.{Answer, is_refused}
 use Rattle.module_promises.specs.Runs.{Given, Exchange, exchange, next_of, run_of, run_by, carried, carried_by}
 use Rattle.module_promises.specs.Promises.{NobodyElse, taken, offered, CleanAmongRefused}
 use Rattle.module_promises.proofs.Idle.{refused_leaves}
 use Rattle.module_promises.proofs.Clean.{clean_succeeds}
 use Rattle.module.specs.Step.{Left}
-use Rattle.module_model.specs.declared.events.Answer.{Answer}
 use Rattle.module_model.specs.declared.events.Answer.TheVariants.{Nothing, Sent, Refused}
 use Rattle.module.specs.declared.session.Session.{Session}
 

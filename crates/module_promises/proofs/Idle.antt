@@ -8,7 +8,7 @@ use Rattle.wire.specs.Frame as wire
 use Rattle.module_model.specs.Phases.{longest_idle, is_closed}
 use Rattle.module_model.specs.Rules.{frames_of, decide_of}
 use Rattle.module_model.proofs.Leads.{held_open, frame_only}
-use Rattle.module_model.specs.Answers.{is_refused}
+use Rattle.module_model.specs.Answers.{Answer, is_refused}
 use Rattle.module.specs.Session.{stepped, takes}
 use Rattle.module.specs.SessionLaws.{takes_facts}
 use Rattle.module.specs.Step.{Left, left, time_step, answer_of, step_of}
@@ -19,7 +19,6 @@ use Rattle.module_promises.proofs.Steps.{Case, refuses, sleeps, waits, hears, st
 use Rattle.module_promises.specs.Promises.{Closes, idle, restart, IdleRule, RefusedLeaves, ClosedLeaves}
 use Rattle.module_model.specs.declared.events.Event.{Event}
 use Rattle.module_model.specs.declared.events.Event.TheVariants.{Frame, Elapsed}
-use Rattle.module_model.specs.declared.events.Answer.{Answer}
 use Rattle.module_model.specs.declared.events.Answer.TheVariants.{Nothing, Refused}
 use Rattle.module.specs.declared.session.Session.{Session}
 use Rattle.module.specs.declared.session.Stepped.{Stepped}

@@ -6,14 +6,13 @@ use Rattle.std.proofs.Common.{inl, inr, sym, ap, ◌∙◌, arith, ltb-true, ltb
 use Rattle.octets.proofs.Choice.{either_way}
 use Rattle.refusals.specs.Refusals.{no_room, wrong_length}
 use Rattle.module_model.specs.Rules.{frames_of, decide_of}
-use Rattle.module_model.specs.Answers.{is_refused}
+use Rattle.module_model.specs.Answers.{Answer, is_refused}
 use Rattle.module.specs.Session.{takes}
 use Rattle.module.specs.Step.{Left, event_step, frame_step, smallest_reply, step_of}
 use Rattle.module_promises.specs.Runs.{Given, exchange}
 use Rattle.module_promises.proofs.Idle.{time_answer, reply_taken}
 use Rattle.module_promises.specs.Promises.{Refuses, RefusedExactly}
 use Rattle.module_model.specs.declared.events.Event.{Event}
-use Rattle.module_model.specs.declared.events.Answer.{Answer}
 use Rattle.module_model.specs.declared.events.Answer.TheVariants.{Refused}
 use Rattle.module.specs.declared.session.Session.{Session}
 

@@ -6,7 +6,7 @@ use mathlib.Core.List.{List, [], ◌∷◌, Memᴰ}
 use Rattle.std.proofs.Common.{ap, arith}
 use Rattle.refusals.specs.Refusals.{no_room, wrong_length, refusal_number}
 use Rattle.wire.specs.Frame as wire
-use Rattle.module_model.specs.Answers.{number_in}
+use Rattle.module_model.specs.Answers.{Answer, numbered, number_in}
 use Rattle.module_model.specs.Phases.{alive, openable}
 use Rattle.module.specs.Session.{session, stepped, opening_of, takes}
 use Rattle.module.specs.Step.{left, smallest_reply, step_of}
@@ -53,7 +53,7 @@ flashless reply = record { event = Elapsed 5; payload = []; flash = []; reply = 
 
 pub tests_length_first_refuted : RefusedExactlyOf tests_length_first → ⊥
 tests_length_first_refuted promise =
-    let same : refusal_number wrong_length ≡ refusal_number no_room = ap number_in ((promise ready (flashless [])).two_when (omega arith)) in
+    let same : refusal_number wrong_length ≡ refusal_number no_room = ap (λ (a : Answer). number_in (numbered a)) ((promise ready (flashless [])).two_when (omega arith)) in
     omega (arith, same)
 
 abbrev pub takes_any_flash : Step
@@ -63,7 +63,7 @@ pub takes_any_flash_refuted : RefusedExactlyOf takes_any_flash → ⊥
 unfolding step_of takes alive openable
 takes_any_flash_refuted promise =
     let same : ◌≡◌ {A = ℕ} 0 (refusal_number wrong_length) =
-    ap number_in ((promise ready (flashless zeros64)).three_when (omega arith) (λ e. omega (arith, e))) in
+    ap (λ (a : Answer). number_in (numbered a)) ((promise ready (flashless zeros64)).three_when (omega arith) (λ e. omega (arith, e))) in
     omega (arith, same)
 
 -- ---- a transfer forgotten in a pause

@@ -16,7 +16,7 @@ use Rattle.module_promises.proofs.WrongRules.{leaving}
 use Rattle.module_model.specs.declared.phases.Phase.TheVariants.{Closed, Ready}
 use Rattle.module_model.specs.declared.events.Event.{Event}
 use Rattle.module_model.specs.declared.events.Event.TheVariants.{Frame, Elapsed}
-use Rattle.module_model.specs.declared.events.Answer.{Answer}
+use Rattle.module_model.specs.Answers.{Answer}
 use Rattle.module_model.specs.declared.events.Answer.TheVariants.{Nothing, Sent, Refused}
 use Rattle.module.specs.declared.session.Session.{Session}
 

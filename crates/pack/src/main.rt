@@ -1,10 +1,9 @@
 // Makes a UBF file of one block from a raw image file and the block's fields.
 #![tactic(auto)]
 
-use console::{FileError, Placed, Refused, Text};
+use console::{FileError, Placed, Refused, Text, Word};
 use refusals::Refusal;
 use std::alloc::{AllocError, Global};
-use std::io;
 use std::rt::Files;
 use ubf::{Block, Numbers};
 
@@ -41,24 +40,21 @@ impl From<Refusal> for Unpacked {
     }
 }
 
+// Its own name and eight more, and one that would be too many.
+const WORDS: usize = 10;
+
 // Each program has such a main: a common one would be a public call that only runs what it is handed, of which no contract could say
 // anything.
 fn main(rt: HostRuntime) {
     let err = rt.stderr();
-    match console::arguments(&rt) {
-        // Where standard output fails, nothing is left to say so on.
-        Ok(words) => {
-            let _ = pack(&rt, &err, &words);
-        }
+    match console::arguments(&rt, WORDS) {
+        Ok(words) => pack(&rt, &err, &words),
         Err(error) => console::fail(&err, b"pack", &error),
     }
 }
 
-fn pack(
-    rt: &(impl Files + Print + AllocGlobal),
-    err: &impl Print,
-    words: &[Vec<u8>],
-) -> io::Result<()> {
+// Here and below a line that can't be written is let be, and the next one is tried.
+fn pack(rt: &(impl Files + Print + AllocGlobal), err: &impl Print, words: &[Vec<u8>]) {
     match words {
         [_, image, out, kind, start, model, version, name, date] if image.len() <= console::PATH =>
             {
@@ -78,28 +74,23 @@ fn pack(
     }
 }
 
-fn usage(rt: &impl Print) -> io::Result<()> {
-    rt.println("usage: pack IMAGE OUT TYPE START MODEL VERSION NAME DATE")?;
-    rt.println("TYPE is 1, 2 or 3; START is where the image starts in the block, 208 or more")
+fn usage(rt: &impl Print) {
+    let _ = rt.println("usage: pack IMAGE OUT TYPE START MODEL VERSION NAME DATE");
+    let _ = rt.println(
+        "TYPE is 1, 2 or 3; START is where the image starts in the block, 208 or more",
+    );
 }
 
 // Reads the image, if it is not too large, and packs it. An image that is too large is an answer in this program's own words, on standard
 // output; why the system reads none goes to standard error.
-fn pack_file(
-    rt: &(impl Files + Print + AllocGlobal),
-    err: &impl Print,
-    wish: Wish<'_>,
-) -> io::Result<()> {
+fn pack_file(rt: &(impl Files + Print + AllocGlobal), err: &impl Print, wish: Wish<'_>) {
     match console::read_file(rt, wish.image, console::FLASH) {
         Ok(image) => pack_image(rt, err, wish, &image),
         Err(FileError::Larger) => {
             let name = Text(wish.image);
-            println!(rt; "{name}: larger than 262,144 bytes, more than any image has")
+            let _ = println!(rt; "{name}: larger than 262,144 bytes, more than any image has");
         }
-        Err(why) => {
-            console::fail(err, wish.image, &why);
-            Ok(())
-        }
+        Err(why) => console::fail(err, wish.image, &why),
     }
 }
 
@@ -109,15 +100,14 @@ fn pack_image(
     err: &impl Print,
     wish: Wish<'_>,
     image: &[u8],
-) -> io::Result<()> {
+) {
     match block_of(rt.alloc(), wish, image) {
         Ok(block) if wish.out.len() <= console::PATH => keep(rt, err, wish.out, &block),
         Ok(_) | Err(Unpacked::NoNumbers) => usage(rt),
-        Err(Unpacked::Refused(refusal)) => rt.println(Refused(refusal)),
-        Err(Unpacked::NoMemory) => {
-            console::fail(err, b"pack", &AllocError);
-            Ok(())
+        Err(Unpacked::Refused(refusal)) => {
+            let _ = rt.println(Refused(refusal));
         }
+        Err(Unpacked::NoMemory) => console::fail(err, b"pack", &AllocError),
     }
 }
 
@@ -153,33 +143,27 @@ fn address_of(number: u16) -> u32 {
     kinds::kind_of(number).map_or(0, kinds::base_of)
 }
 
-fn keep(
-    rt: &(impl Files + Print + AllocGlobal),
-    err: &impl Print,
-    path: &[u8],
-    block: &[u8],
-) -> io::Result<()> {
+fn keep(rt: &(impl Files + Print + AllocGlobal), err: &impl Print, path: &[u8], block: &[u8]) {
     match console::write_file(rt, path, block) {
         Ok(()) => {
             let name = Text(path);
             let count = block.len();
-            print!(rt; "{name}: {count} bytes, ")?;
-            show(rt, ubf::read(block))
+            let _ = print!(rt; "{name}: {count} bytes, ");
+            show(rt, ubf::read(block));
         }
-        Err(why) => {
-            why.tell(err, path);
-            Ok(())
-        }
+        Err(why) => why.tell(err, path),
     }
 }
 
-fn show(rt: &impl Print, found: Result<Block, Refusal>) -> io::Result<()> {
+fn show(rt: &impl Print, found: Result<Block, Refusal>) {
     match found {
-        Err(refusal) => rt.println(Refused(refusal)),
+        Err(refusal) => {
+            let _ = rt.println(Refused(refusal));
+        }
         Ok(block) => {
             let placed = Placed(block);
-            let check = block.check;
-            println!(rt; "{placed}, check 0x{check:08X}")
+            let check = Word(block.check);
+            let _ = println!(rt; "{placed}, check {check}");
         }
     }
 }

@@ -2,7 +2,7 @@
 use Rattle.std.specs.Prelude.{ℕ, Bool, List, nat_lt}
 use Rattle.host.specs.Session.{session_repeats}
 use Rattle.host.specs.declared.session.Session.{Session}
-use Rattle.host_model.specs.declared.events.Answer.{Answer}
+use Rattle.host_model.specs.Events.{Answer}
 use Rattle.host_end.specs.HostEnd.{HostLeft, end_of, host_hears, host_waits}
 use Rattle.host_end.specs.declared.end.HostEnd.{HostEnd}
 use Rattle.host_end.specs.declared.end.HostStep.{HostStep}

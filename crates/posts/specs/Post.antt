@@ -3,7 +3,7 @@ use Rattle.std.specs.Prelude.{ℕ, ◌+◌, ◌%◌, ◌^◌, Bool, cond, List, 
 use Rattle.octets.specs.Octets.{laid}
 use Rattle.commands.specs.Commands.{start_text, start_answer}
 use Rattle.module.specs.Session.{opening_of, takes}
-use Rattle.module_model.specs.declared.events.Answer.{Answer}
+use Rattle.module_model.specs.Answers.{Answer}
 use Rattle.module_model.specs.declared.events.Answer.TheVariants.{Nothing, Sent}
 use Rattle.board_end.specs.Board.{BoardLeft, board_of, board_hears, board_waits}
 use Rattle.board_end.specs.declared.board.Board.{Board}

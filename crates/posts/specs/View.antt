@@ -43,11 +43,12 @@ abbrev pub idle_of : Post → Bool
 idle_of post = nat_lt longest_idle post.board.session.idle
 
 -- A load under way.
-abbrev pub begun_of : Ending
+abbrev pub begun_of : {R : Type 0} → Ending R
 begun_of = ending.UnderWay
 
--- What an answer of the host says of the end: nothing, done, or refused, with the module's byte that is passed on.
-abbrev pub ending_of : Answer → Ending
+-- What an answer of the host says of the end: nothing, done, or refused, with the module's byte that is passed on. A refusal stays as it
+-- is told, by name or by any number.
+abbrev pub ending_of : {R : Type 0} → Answer R → Ending R
 ending_of answer.Nothing = ending.UnderWay
 ending_of (answer.Sent n) = ending.UnderWay
 ending_of answer.Done = ending.Done

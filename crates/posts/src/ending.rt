@@ -6,15 +6,12 @@ ghost use Rattle.posts.specs.View.{begun_of, ending_of};
 use host::Answer;
 use refusals::Refusal;
 
-// A load is under way, done, or refused; with 21 and 22 the module's byte is passed on.
+// A load is under way, done, or refused, as the answer told the refusal; with 21 and 22 the module's byte is passed on.
 #[derive(Clone, Copy, Debug, PartialEq, Eq)]
-pub enum Ending {
+pub enum Ending<R = Refusal> {
     UnderWay,
     Done,
-    Refused {
-        refusal: Refusal,
-        passed: Option<u8>,
-    },
+    Refused { refusal: R, passed: Option<u8> },
 }
 
 // A load under way.
@@ -25,7 +22,7 @@ pub fn begun() -> Ending
 }
 
 // What an answer of the host says of the end.
-pub fn ended_by(answer: Answer) -> Ending
+pub fn ended_by<R: Copy>(answer: Answer<R>) -> Ending<R>
     ensures { result ≡ ending_of answer }
 {
     match answer {
@@ -47,7 +44,7 @@ pub fn ended_by(answer: Answer) -> Ending
 }
 
 // How many bytes an answer says are to be sent.
-pub fn said(answer: Answer) -> usize
+pub fn said<R: Copy>(answer: Answer<R>) -> usize
     ensures { result ≡ count_in answer }
 {
     match answer {

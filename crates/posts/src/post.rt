@@ -73,7 +73,7 @@ impl Post {
             let seen = host_end::follow(&commands::START_TEXT, self.seen, byte);
             return self.listens(seen, flash, reply);
         }
-        self.went(self.board.hear(byte, flash, reply))
+        Post::went(self.board.hear(byte, flash, reply), self.dropped)
     }
 
     // Milliseconds pass. Without a session nobody counts them.
@@ -85,19 +85,20 @@ impl Post {
         if !self.is_open() {
             return self.says(Answer::Nothing);
         }
-        self.went(self.board.wait(ms, flash, reply))
+        Post::went(self.board.wait(ms, flash, reply), self.dropped)
     }
 
-    // What the step of the board leaves; texts are looked at anew once its session has closed.
-    fn went(self, step: BoardStep) -> PostStep
+    // What the step of the board leaves; texts are looked at anew once its session has closed. The count so far comes by itself: for it alone
+    // the post would be copied with each byte.
+    fn went(step: BoardStep, dropped: usize) -> PostStep
         ensures { result
-            ≡ record { post = post_with step.board 0 (more_of self.dropped step.dropped); answer = step.answer } }
+            ≡ record { post = post_with step.board 0 (more_of dropped step.dropped); answer = step.answer } }
     {
         PostStep {
             post: Post {
                 board: step.board,
                 seen: 0,
-                dropped: more(self.dropped, step.dropped),
+                dropped: more(dropped, step.dropped),
             },
             answer: step.answer,
         }

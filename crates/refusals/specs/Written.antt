@@ -9,16 +9,21 @@ pub record Out : Type 0 where
   pub answer : Result ℕ Refusal
   pub output : List ℕ
 
--- What each case says in numbers. A refusal has document 01's number, and no byte is written. Bytes written are no refusal and have no
+-- The same answer by number: a refusal has document 01's.
+abbrev pub numbered : Result ℕ Refusal → Result ℕ ℕ
+numbered (Ok n) = Ok n
+numbered (Err refusal) = Err (refusal_number refusal)
+
+-- What each case says in numbers. A refusal is any number and says its own, and no byte is written. Bytes written are no refusal and have no
 -- number there; theirs, and that of every such answer, is from 100 on, as C is given it.
 abbrev pub bytes_written : ℕ
 bytes_written = 100
 
-abbrev pub number_in : Result ℕ Refusal → ℕ
+abbrev pub number_in : Result ℕ ℕ → ℕ
 number_in (Ok n) = bytes_written
-number_in (Err refusal) = refusal_number refusal
+number_in (Err number) = number
 
-abbrev pub count_in : Result ℕ Refusal → ℕ
+abbrev pub count_in : {R : Type 0} → Result ℕ R → ℕ
 count_in (Ok n) = n
 count_in (Err refusal) = 0
 

@@ -6,3 +6,4 @@ mod lines;
 mod words;
 
 pub use lines::{Lines, Mark};
+pub use words::Told;

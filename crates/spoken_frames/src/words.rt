@@ -1,5 +1,7 @@
 // Frames in words.
+use console::{Hex, Refused, Word};
 use host_model::Rate;
+use refusals::Refusal;
 use std::fmt;
 
 // A frame that the host sends.
@@ -23,10 +25,10 @@ impl fmt::Display for Ordered<'_> {
             commands::RATE => write!(f, "rate {}", RateNumber(octets::byte_at(payload, 0))),
             commands::PARAMETERS => write!(
                 f,
-                "type {}, length {}, address 0x{:08X}",
+                "type {}, length {}, address {}",
                 octets::two_at(payload, 0),
                 octets::four_at(payload, 2),
-                octets::four_at(payload, 6)
+                Word(octets::four_at(payload, 6))
             ),
             commands::PACKET => write!(
                 f,
@@ -105,7 +107,7 @@ impl fmt::Display for Acknowledgement {
             commands::NOT_UNDERSTOOD => "wrong command, send again",
             _ => "not listed",
         };
-        write!(f, "ACK {ack:02X}: {words}")
+        write!(f, "ACK {}: {words}", Hex(&[ack]))
     }
 }
 
@@ -137,6 +139,19 @@ impl fmt::Display for RateNumber {
         match Rate::try_from(number) {
             Ok(rate) => write!(f, "{number} ({rate})"),
             Err(_) => write!(f, "{number} (not listed)"),
+        }
+    }
+}
+
+// A refusal by number, which an answer may tell so: any number, with its words.
+#[derive(Clone, Copy)]
+pub struct Told(pub u8);
+
+impl fmt::Display for Told {
+    fn fmt<W: fmt::Write>(&self, f: &mut fmt::Formatter<W>) -> fmt::Result {
+        match Refusal::try_from(self.0) {
+            Ok(refusal) => write!(f, "{}", Refused(refusal)),
+            Err(unknown) => write!(f, "refused {}, {unknown}", self.0),
         }
     }
 }

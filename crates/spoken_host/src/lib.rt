@@ -2,30 +2,57 @@
 // they print is tested.
 #![tactic(auto)]
 
-use console::{Passed, Refused};
+use console::Hex;
 use host::{Answer, Phase, Session, Wait};
-use spoken_frames::{Lines, Mark};
+use spoken_frames::{Lines, Mark, Told};
 use stages::{Rate, Stage};
 use std::fmt;
 
 // The most bytes that a line shows; that is a frame with parameters.
 pub const PLACES: usize = 17;
 
-// What a call answers: the message to send, nothing, or how the load ends.
-pub fn show_answer<P: Print>(lines: Lines<P>, answer: Answer, out: &[u8]) {
+// The number of a refusal by the module; the byte that is passed on beside it is an ACK, and beside any other a State.
+const MODULE_REFUSED: u8 = 21;
+
+// What a call answers: the message to send, nothing, or how the load ends, a refusal by name or by any number.
+pub fn show_answer<P: Print, R: Copy + Into<u8>>(lines: Lines<P>, answer: Answer<R>, out: &[u8]) {
     match answer {
         Answer::Nothing => lines.words_only(Mark::Sent, &"nothing"),
         Answer::Sent(n) => lines.message(Mark::Sent, octets::part(out, 0, n)),
         Answer::Done => lines.words_only(Mark::Sent, &"nothing: the load is done"),
-        Answer::Refused(refusal) => lines.words_only(Mark::Sent, &Refused(refusal)),
+        Answer::Refused(refusal) => lines.words_only(Mark::Sent, &Told(refusal.into())),
         Answer::Failed {
             refusal,
             passed,
             count,
         } => {
             lines.message(Mark::Sent, octets::part(out, 0, count));
-            lines.words_only(Mark::Sent, &Passed { refusal, passed });
+            let number = refusal.into();
+            lines.words_only(Mark::Sent, &PassedOn { number, passed });
         }
+    }
+}
+
+// The module's byte beside a refusal.
+#[derive(Clone, Copy)]
+struct PassedOn {
+    number: u8,
+    passed: u8,
+}
+
+impl fmt::Display for PassedOn {
+    fn fmt<W: fmt::Write>(&self, f: &mut fmt::Formatter<W>) -> fmt::Result {
+        let what = match self.number {
+            MODULE_REFUSED => "ACK",
+            _ => "State",
+        };
+        let passed = [self.passed];
+        write!(
+            f,
+            "{}, {what} {} passed on",
+            Told(self.number),
+            Hex(&passed)
+        )
     }
 }
 

@@ -2,17 +2,15 @@
 // they print is tested.
 #![tactic(auto)]
 
-use console::Refused;
 use module::{Answer, Phase, Session};
-use refusals::Refusal;
-use spoken_frames::{Lines, Mark};
+use spoken_frames::{Lines, Mark, Told};
 use std::fmt;
 
 // The most bytes that a line shows; that is a command and ten bytes of payload.
 pub const PLACES: usize = 11;
 
-// The frames that are sent, or that there are none, or the refusal.
-pub fn show_answer<P: Print>(lines: Lines<P>, answer: Answer, reply: &[u8]) {
+// The frames that are sent, or that there are none, or the refusal, by name or by any number.
+pub fn show_answer<P: Print, R: Copy + Into<u8>>(lines: Lines<P>, answer: Answer<R>, reply: &[u8]) {
     match answer {
         Answer::Nothing => lines.words_only(Mark::Heard, &"no answer"),
         Answer::Sent(n) => lines.message(Mark::Heard, octets::part(reply, 0, n)),
@@ -21,7 +19,7 @@ pub fn show_answer<P: Print>(lines: Lines<P>, answer: Answer, reply: &[u8]) {
 }
 
 // An opening sends nothing.
-pub fn show_opening<P: Print>(lines: Lines<P>, answer: Answer) {
+pub fn show_opening<P: Print, R: Copy + Into<u8>>(lines: Lines<P>, answer: Answer<R>) {
     match answer {
         Answer::Nothing => lines.words_only(Mark::Heard, &"opened"),
         Answer::Sent(_) => lines.words_only(Mark::Heard, &"UNKNOWN"),
@@ -30,8 +28,8 @@ pub fn show_opening<P: Print>(lines: Lines<P>, answer: Answer) {
 }
 
 // A refusal's number and words.
-fn show_refusal<P: Print>(lines: Lines<P>, refusal: Refusal) {
-    lines.words_only(Mark::Heard, &Refused(refusal));
+fn show_refusal<P: Print>(lines: Lines<P>, refusal: impl Into<u8>) {
+    lines.words_only(Mark::Heard, &Told(refusal.into()));
 }
 
 // Where a session stands, and its idle sum while it takes events.

@@ -13,7 +13,7 @@ use Rattle.kinds.specs.Kinds.{longest_image, kind_of, base_of, fits_file}
 use Rattle.kinds.specs.KindsLaws.{image_short}
 use Rattle.kinds.specs.declared.Kind.{Kind}
 use Rattle.refusals.specs.Refusals.{no_room, wrong_type, wrong_start, wrong_image_length, not_zero_filled, refusal_number}
-use Rattle.refusals.specs.Written.{Out, bytes_written, number_in, written}
+use Rattle.refusals.specs.Written.{Out, bytes_written, numbered, number_in, written}
 use Rattle.ubf_model.specs.Block.{header_size, mark_in, mark, model_in, version_in, name_in, date_in, gap_in, text_fits, texts_fit, filled_in}
 use Rattle.ubf_model.specs.Block.{length_place, address_place, start_place, type_place, model_size, version_size, name_size, date_size}
 use Rattle.ubf_model.specs.Pack.{header_pieces, body_pieces, pieces_of, Fields, filled, block_bytes, bytes_of, texts_in, pairs, fits, unless_out, pack_of}
@@ -211,12 +211,12 @@ pub record Accepted (f : Fields) (output : List ℕ) : Type 0 where
 
 -- Where a test stands before an answer that bytes were written, it was passed, and what stands behind it is that answer.
 went_on : (t : Bool) (refusal : Refusal) (output : List ℕ) (rest : Out) → refusal_number refusal < bytes_written
-    → number_in (unless_out t refusal output rest).answer ≡ bytes_written → (t ≡ true) × (number_in rest.answer ≡ bytes_written)
+    → number_in (numbered (unless_out t refusal output rest).answer) ≡ bytes_written → (t ≡ true) × (number_in (numbered rest.answer) ≡ bytes_written)
 went_on true refusal output rest less h = (refl, h)
 went_on false refusal output rest less h = absurd (omega (arith, h))
 
 -- Fields that were written have passed every test.
-pub pack_accepted : (f : Fields) (output : List ℕ) → number_in (pack_of f output).answer ≡ bytes_written → Accepted f output
+pub pack_accepted : (f : Fields) (output : List ℕ) → number_in (numbered (pack_of f output).answer) ≡ bytes_written → Accepted f output
 unfolding pack_of
 pack_accepted f output h = go (kind_of f.number) refl h
   where
@@ -229,7 +229,7 @@ pack_accepted f output h = go (kind_of f.number) refl h
         (unless_out (leb (bytes_of f) (length output)) no_room output
         (written (block_bytes f) output)))))
 
-    go : (known : Option Kind) → kind_of f.number ≡ known → number_in (behind_kind known).answer ≡ bytes_written → Accepted f output
+    go : (known : Option Kind) → kind_of f.number ≡ known → number_in (numbered (behind_kind known).answer) ≡ bytes_written → Accepted f output
     go None e r = let z : refusal_number wrong_type ≡ bytes_written = r in absurd (omega (arith, z))
     go (Some k) e r =
         let at_base = went_on (eqb f.address (base_of k)) wrong_type output _ (omega arith) r in

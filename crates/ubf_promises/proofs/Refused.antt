@@ -8,7 +8,7 @@ use Rattle.octets.proofs.Choice.{by_test, either_way}
 use Rattle.octets.specs.Octets.{same_bytes}
 use Rattle.kinds.specs.Kinds.{kind_of}
 use Rattle.refusals.specs.Refusals.{file_ends, wrong_mark}
-use Rattle.refusals.specs.Written.{Out, bytes_written, number_in, written}
+use Rattle.refusals.specs.Written.{Out, bytes_written, numbered, number_in, written}
 use Rattle.ubf_model.specs.Answers.{block_found, found_told}
 use Rattle.ubf_model.specs.Block.{header_size, mark_in, mark, type_in, fields_of, unless, kind_block, known_block, block_of}
 use Rattle.ubf_model.specs.Pack.{block_bytes, unless_out, pack_of}
@@ -44,19 +44,19 @@ unless_all_out (t ∷ ts) output rest = unless_out t.1 t.0 output (unless_all_ou
 
 -- They give the number of the first that fails, or that of the rest.
 all_numbered : (ts : List (Refusal × Bool)) (output : List ℕ) (rest : Out)
-    → number_in (unless_all_out ts output rest).answer ≡ first_failing ts (number_in rest.answer)
+    → number_in (numbered (unless_all_out ts output rest).answer) ≡ first_failing ts (number_in (numbered rest.answer))
 all_numbered [] output rest = refl
 all_numbered (t ∷ ts) output rest =
-    by_test (λ (o : Out) (n : ℕ). number_in o.answer ≡ n) t.1 (λ _. all_numbered ts output rest) (λ _. refl)
+    by_test (λ (o : Out) (n : ℕ). number_in (numbered o.answer) ≡ n) t.1 (λ _. all_numbered ts output rest) (λ _. refl)
 
 -- One that fails leaves the output as lent.
-all_lent : (ts : List (Refusal × Bool)) (output : List ℕ) (rest : Out) → number_in rest.answer ≡ bytes_written
-    → (number_in (unless_all_out ts output rest).answer ≡ bytes_written → ⊥) → (unless_all_out ts output rest).output ≡ output
+all_lent : (ts : List (Refusal × Bool)) (output : List ℕ) (rest : Out) → number_in (numbered rest.answer) ≡ bytes_written
+    → (number_in (numbered (unless_all_out ts output rest).answer) ≡ bytes_written → ⊥) → (unless_all_out ts output rest).output ≡ output
 all_lent [] output rest h = λ no. absurd (no h)
 all_lent (t ∷ ts) output rest h = either_way Lent t.1 (λ _. all_lent ts output rest h) (λ _ _. refl)
   where
     Lent : Out → Type 0
-    Lent o = (number_in o.answer ≡ bytes_written → ⊥) → o.output ≡ output
+    Lent o = (number_in (numbered o.answer) ≡ bytes_written → ⊥) → o.output ≡ output
 
 -- The writer's refusals.
 pub pack_refused : PackRefused

@@ -8,7 +8,7 @@ use Rattle.octets.specs.Octets.{spelled, little, number_at, part_of, over, laid,
 use Rattle.kinds.specs.Kinds.{kind_of, base_of, fits_file}
 use Rattle.kinds.specs.declared.Kind.TheVariants.{Upgrade}
 use Rattle.refusals.specs.Refusals.{file_ends, wrong_mark, wrong_type, wrong_start, wrong_image_length, not_zero_filled, wrong_image_check, refusal_number}
-use Rattle.refusals.specs.Written.{Out, bytes_written, number_in}
+use Rattle.refusals.specs.Written.{Out, bytes_written, numbered, number_in}
 use Rattle.ubf_model.specs.Answers.{block_found}
 use Rattle.ubf_model.specs.Block.{header_size, mark_place, model_size, mark_in, mark, length_in, address_in, start_in, type_in, image_in, check_in, model_in, version_in, name_in, date_in, image_of}
 use Rattle.ubf_model.specs.Block.{unless, fields_of, block_of, kind_block, known_block, filled_in, text_fits, texts_fit}
@@ -126,7 +126,7 @@ unfolding pack_of kind_of fits_file block_bytes filled spelled over part_of numb
     zero_filled text_length all_zero
 starts_at_207_refuted promise =
     let e = promise early_block (block_for Upgrade early) (bytes_of_law early_block refl) refl lent (omega arith) in
-    let wrong : refusal_number wrong_start ≡ bytes_written = ap (λ (o : Out). number_in o.answer) e in
+    let wrong : refusal_number wrong_start ≡ bytes_written = ap (λ (o : Out). number_in (numbered o.answer)) e in
     omega (arith, wrong)
 
 -- Any text and gap will do: the writer refuses what was read.
@@ -138,7 +138,7 @@ unfolding pack_of kind_of fits_file block_bytes filled spelled over part_of numb
     text_length all_zero
 any_text_refuted promise =
     let e = promise (block_bytes broken) (block_for Upgrade broken) (bytes_of_law (block_bytes broken) refl) refl lent (omega arith) in
-    let wrong : refusal_number not_zero_filled ≡ bytes_written = ap (λ (o : Out). number_in o.answer) e in
+    let wrong : refusal_number not_zero_filled ≡ bytes_written = ap (λ (o : Out). number_in (numbered o.answer)) e in
     omega (arith, wrong)
 
 -- 207 header bytes will do: where no more stand the mark is looked at.

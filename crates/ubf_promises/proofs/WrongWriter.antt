@@ -6,7 +6,7 @@ use Rattle.octets.specs.Octets.{spelled, little, number_at, part_of, over, laid,
 use Rattle.kinds.specs.Kinds.{kind_of, fits_file}
 use Rattle.kinds.specs.declared.Kind.TheVariants.{Upgrade}
 use Rattle.refusals.specs.Refusals.{no_room, wrong_type, wrong_start, wrong_image_length, not_zero_filled, wrong_image_check, refusal_number}
-use Rattle.refusals.specs.Written.{Out, bytes_written, number_in, count_in, written}
+use Rattle.refusals.specs.Written.{Out, bytes_written, numbered, number_in, count_in, written}
 use Rattle.ubf_model.specs.Answers.{block_found}
 use Rattle.ubf_model.specs.Block.{header_size, mark, block_of, kind_block, filled_in, text_fits, texts_fit}
 use Rattle.ubf_model.specs.Pack.{filled, block_bytes, bytes_of, pairs, fits, unless_out, pack_of}
@@ -20,7 +20,7 @@ spares_room f output = unless_out (leb (bytes_of f + 1) (length output)) no_room
 pub spares_room_refuted : PackWritesOf spares_room → ⊥
 spares_room_refuted promise =
     let e = promise Upgrade tiny (replicate tiny_size 7) tiny_packable (omega arith) in
-    let wrong : refusal_number no_room ≡ bytes_written = ap (λ (o : Out). number_in o.answer) e in
+    let wrong : refusal_number no_room ≡ bytes_written = ap (λ (o : Out). number_in (numbered o.answer)) e in
     omega (arith, wrong)
 
 -- Our writer, but the texts are not tested.

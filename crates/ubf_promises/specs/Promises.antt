@@ -6,7 +6,7 @@ use Rattle.octets.specs.Octets.{Bytes, same_bytes, xor_words}
 use Rattle.kinds.specs.Kinds.{kind_of, base_of, number_of, fits_file}
 use Rattle.kinds.specs.declared.Kind.{Kind}
 use Rattle.refusals.specs.Refusals.{no_room, file_ends, wrong_mark, wrong_type, wrong_start, wrong_image_length, not_zero_filled, wrong_image_check, refusal_number}
-use Rattle.refusals.specs.Written.{Out, bytes_written, number_in, count_in, written}
+use Rattle.refusals.specs.Written.{Out, bytes_written, numbered, number_in, count_in, written}
 use Rattle.ubf_model.specs.Answers.{block_found, block_told, none_told, found_told, nth_told}
 use Rattle.ubf_model.specs.Block.{header_size, block_of, size_of, image_of, model_in, version_in, name_in, date_in}
 use Rattle.ubf_model.specs.Block.{mark_in, mark, length_in, address_in, start_in, type_in, image_in, check_in, filled_in}
@@ -93,7 +93,7 @@ pub record PackedAs (read : Reader) (f : Fields) (output : List ℕ) (count : �
 abbrev pub PackedReadOf : Writer → Reader → Type 0
 PackedReadOf write read =
     (f : Fields) (output : List ℕ) → f.start < 2 ^ 32 → Bytes f.image
-    → let o = write f output in number_in o.answer ≡ bytes_written → PackedAs read f output (count_in o.answer) o.output
+    → let o = write f output in number_in (numbered o.answer) ≡ bytes_written → PackedAs read f output (count_in o.answer) o.output
 
 abbrev pub PackedRead : Type 0
 PackedRead = PackedReadOf pack_of our_reader
@@ -164,8 +164,8 @@ abbrev pub PackRefusedOf : Writer → Type 0
 PackRefusedOf write =
     (f : Fields) (output : List ℕ)
     → let o = write f output in
-    (number_in o.answer ≡ first_failing (field_tests f output) bytes_written)
-    × ((number_in o.answer ≡ bytes_written → ⊥) → o.output ≡ output)
+    (number_in (numbered o.answer) ≡ first_failing (field_tests f output) bytes_written)
+    × ((number_in (numbered o.answer) ≡ bytes_written → ⊥) → o.output ≡ output)
 
 abbrev pub PackRefused : Type 0
 PackRefused = PackRefusedOf pack_of

@@ -54,7 +54,7 @@ returns-in_default c =
       | in_default-via-in-Ok+in_default w ↦ rw ((rw w.in_default.is-1 at c.try_from-2.ensures).1) (no_start (leb 1 a.first) (leb a.first 5) (leb a.same 1))
       | in_default-via-in_default w ↦ no_rate (leb 1 a.first) (leb a.first 5) _ (rw w.in_default.is-0 at c.try_from.ensures).1
     ] in
-    rw (c.over.ensures, c.default.ensures.1.0, c.default.ensures.1.1) (sym (cond_no _ _ _ none))
+    rw c.over.ensures (sym (cond_no _ _ _ none))
 
 pub returns : goal.returns
 unfolding opening_by
@@ -62,7 +62,7 @@ returns c =
     let a = c.args in
     let o = c.in-Ok-Ok-Ok in
     let t = taken a.first a.start a.same (record { first = o.first; wish = a.wish; start = o.start; same = o.same }) o.ensures o.ensures' o.ensures'' in
-    rw c.told_of.ensures
+    rw c.numbered.ensures
     (ap begun_as c.opening-stepped.ensures
     ∙ rw (← t.1)
     (sym (cond_yes _ _ _ t.0)))

@@ -1,11 +1,20 @@
--- `octets::zeros`: each byte is tested.
-use Rattle.std.proofs.Common.{eqb, rules, tests, ◌∙◌}
-use Rattle.std.proofs.lemmas.Iterator.{YieldsList-from_slice}
-use Rattle.std.proofs.lemmas.Iterator.Search.{all_from_yields_List}
-use Rattle.octets.proofs.Words.{zero_all}
+-- `octets::zeros`: while the bytes passed are zeros, the answer for the rest is the answer for all.
+use Rattle.std.proofs.Common.{◌+◌, ◌&&◌, ◌∙◌, sym, ap, arith, drop, eq-eqb, ne_eqb}
+use Rattle.octets.specs.Octets.{all_zero}
+use Rattle.octets.proofs.OctetsLaws.{zero_more, zero_end}
 use Rattle.octets.proofs.runs.zeros.Goals as goal
 
+pub returns-then-byte-ne0 : goal.returns-then-byte-ne0
+returns-then-byte-ne0 c =
+    let l = c.loop-byte in
+    let s = c.args.s.now in
+    sym (l.invariant ∙ zero_more s l.byte-index (omega arith) ∙ ap (λ b. b && all_zero (drop (l.byte-index + 1) s)) (ne_eqb _ _ c.if-byte-ne0.true))
+
+pub loop-byte-preserved : goal.loop-byte-preserved
+loop-byte-preserved c =
+    let l = c.loop-byte in
+    let s = c.args.s.now in
+    l.invariant ∙ zero_more s l.byte-index (omega arith) ∙ ap (λ b. b && all_zero (drop (l.byte-index + 1) s)) (eq-eqb _ _ c.if-byte-ne0.false)
+
 pub returns : goal.returns
-returns c =
-    all_from_yields_List (λ b. eqb b 0) _ _ _ c.all.ensures.ran (YieldsList-from_slice c.args.s.now cc) (λ x b q k. search (rules, tests))
-    ∙ zero_all c.args.s.now
+returns c = sym (c.loop-byte.invariant ∙ zero_end _ c.loop-byte.byte-index (omega arith))
